@@ -1,0 +1,92 @@
+// A sink in memory.
+ghost use Rattle.std.specs.Prelude.{◌≡◌, ◌+◌, ◌≤◌, ◌↔◌, [], length, Some, IfOk, IsOk, OnErr};
+ghost use Rattle.flux_outside.specs.Causes.{HasCause, next_count};
+ghost use Rattle.flux_outside.specs.Told.{PutAppends};
+
+use crate::counts::count_fault;
+use crate::traits::{Failed, Sink};
+use std::alloc::{AllocError, Global};
+use std::marker::Model;
+
+/// Bytes in memory, in a room of fixed size. A put that does not fit appends what fits and fails. The
+/// room is reserved from the start, so a put takes no memory.
+#[derive(Drop)]
+pub struct MemSink {
+    bytes: Vec<u8>,
+    room: usize,
+    faults: u64,
+}
+
+impl Model for MemSink {
+    ghost use Rattle.std.specs.Prelude.{◌≤◌, ◌<◌, ◌^◌, vec_len, vec_capacity};
+    ghost use Rattle.flux_outside.specs.MemSink.{Kept};
+
+    ghost Value = { Kept };
+
+    ghost view = { λ s. record { bytes = s.bytes.items; room = s.room; faults = s.faults } };
+
+    ghost invariant = { λ s. (vec_len s.bytes ≤ s.room) × (s.room ≤ vec_capacity s.bytes) × (s.faults < 2 ^ 64) };
+}
+
+impl MemSink {
+    /// An empty sink for so many bytes, with no fault yet.
+    pub fn new(alloc: Global, room: usize) -> Result<MemSink, AllocError>
+        ensures { IfOk result (λ sink. sink ≡ record { bytes = []; room = room; faults = 0 }) }
+    {
+        let bytes = Vec::with_capacity(alloc, room)?;
+        Ok(MemSink {
+            bytes,
+            room,
+            faults: 0,
+        })
+    }
+
+    /// The bytes that it took.
+    pub fn bytes(&self) -> &[u8]
+        ensures { result.now ≡ self.now.bytes }
+    {
+        &self.bytes
+    }
+}
+
+impl Sink for MemSink {
+    ghost taken = { λ s. Some s.bytes };
+
+    ghost faults = { λ s. s.faults };
+
+    fn put(&mut self, piece: &[u8]) -> Result<(), Failed>
+        ensures bytes { PutAppends (Some self.old.bytes) (Some self.new.bytes) result piece.now }
+        ensures cause { HasCause self.old.faults self.new.faults result }
+        ensures room { self.new.room ≡ self.old.room }
+        ensures fits { IsOk result ↔ (length self.old.bytes + length piece.now ≤ self.old.room) }
+        ensures full { OnErr result (length self.new.bytes ≡ self.old.room) }
+        ensures count { OnErr result (self.new.faults ≡ next_count self.old.faults) }
+    {
+        let space = self.room - self.bytes.len();
+        if piece.len() <= space {
+            self.bytes.extend_from_slice(piece).unwrap();
+            return Ok(());
+        }
+        self.bytes.extend_from_slice(&piece[..space]).unwrap();
+        Err(count_fault(&mut self.faults))
+    }
+}
+
+#[cfg(test)]
+mod tests {
+    use super::*;
+    use std::test::Fail;
+
+    #[test]
+    fn keeps_what_fits(rt: HostRuntime) -> Result<(), Fail> {
+        let mut sink = MemSink::new(rt.alloc(), 4)?;
+        assert_eq!(rt; sink.put(b"+ 1 ab 1 2\n"), Err(Failed));
+        assert_eq!(rt; sink.bytes(), b"+ 1 ".as_slice());
+        assert_eq!(rt; sink.put(b""), Ok(()));
+        let mut sink = MemSink::new(rt.alloc(), 4)?;
+        assert_eq!(rt; sink.put(b"ab"), Ok(()));
+        assert_eq!(rt; sink.put(b"cd"), Ok(()));
+        assert_eq!(rt; sink.bytes(), b"abcd".as_slice());
+        Ok(())
+    }
+}

@@ -1,0 +1,90 @@
+// A sink over a writer.
+ghost use Rattle.std.specs.Prelude.{◌≡◌, OnErr};
+ghost use Rattle.flux_outside.specs.Causes.{HasCause, next_count};
+ghost use Rattle.flux_outside.specs.Told.{PutAppends};
+
+use crate::counts::count_fault;
+use crate::retry;
+use crate::traits::{Failed, Sink};
+use std::io::Write;
+use std::marker::Model;
+
+/// Standard error, or any other writer.
+///
+/// It tells what its writer tells, which is nothing for standard error. A call that is
+/// interrupted is tried again up to 16 times in a row. Any other error of the writer is a fault, and
+/// so is a write that takes nothing.
+#[derive(Drop)]
+pub struct StderrSink<W: Write + Drop> {
+    writer: W,
+    faults: u64,
+}
+
+impl<W: Write + Drop> Model for StderrSink<W> {
+    ghost use Rattle.std.specs.Prelude.{◌<◌, ◌^◌};
+    ghost use Rattle.flux_outside.specs.Real.{Writing};
+
+    ghost Value = { Writing };
+
+    ghost view = { λ s. record { taken = W.contents s.writer; faults = s.faults } };
+
+    ghost invariant = { λ s. s.faults < 2 ^ 64 };
+}
+
+impl<W: Write + Drop> StderrSink<W> {
+    /// The bytes go to this writer, and there is no fault yet.
+    pub fn new(writer: W) -> StderrSink<W>
+        ensures { result ≡ record { taken = W.contents writer; faults = 0 } }
+    {
+        StderrSink { writer, faults: 0 }
+    }
+}
+
+impl<W: Write + Drop> Sink for StderrSink<W> {
+    ghost taken = { λ s. s.taken };
+
+    ghost faults = { λ s. s.faults };
+
+    fn put(&mut self, piece: &[u8]) -> Result<(), Failed>
+        ensures bytes { PutAppends self.old.taken self.new.taken result piece.now }
+        ensures cause { HasCause self.old.faults self.new.faults result }
+        ensures count { OnErr result (self.new.faults ≡ next_count self.old.faults) }
+    {
+        match retry::write_whole(&mut self.writer, piece) {
+            Ok(()) => Ok(()),
+            Err(_) => Err(count_fault(&mut self.faults)),
+        }
+    }
+}
+
+#[cfg(test)]
+mod tests {
+    use super::*;
+    use crate::fakes::{FullWriter, SlowWriter};
+
+    #[test]
+    fn whole_pieces_are_written(rt: HostRuntime) {
+        for (write_interrupts, answer, taken) in [
+            (0, Ok(()), b"abc".as_slice()),
+            (16, Ok(()), b"abc".as_slice()),
+            (17, Err(Failed), b"".as_slice()),
+        ] {
+            let writer = SlowWriter {
+                taken: Vec::new(rt.alloc()),
+                flushed: 0,
+                write_interrupts,
+                flush_interrupts: 0,
+                waited: 0,
+            };
+            let mut sink = StderrSink::new(writer);
+            assert_eq!(rt; sink.put(b"abc"), answer, "at {write_interrupts}");
+            assert_eq!(rt; sink.writer.taken.as_slice(), taken);
+        }
+    }
+
+    #[test]
+    fn a_write_that_takes_nothing_is_a_fault(rt: HostRuntime) {
+        let mut sink = StderrSink::new(FullWriter);
+        assert_eq!(rt; sink.put(b"abc"), Err(Failed));
+    }
+}

@@ -1,0 +1,74 @@
+// A source over a reader.
+ghost use Rattle.std.specs.Prelude.{◌≡◌, OnErr};
+ghost use Rattle.std.specs.Io.{ReadsAtMost};
+ghost use Rattle.std.specs.Io.KnownBytes.{ReadConsumes};
+ghost use Rattle.flux_outside.specs.Causes.{HasCause, next_count};
+
+use crate::counts::count_fault;
+use crate::retry;
+use crate::traits::{Failed, Source};
+use std::io::Read;
+use std::marker::Model;
+
+/// The bytes of standard input, or of any other reader.
+///
+/// It tells what its reader tells, which is nothing for standard input. A read that is interrupted
+/// is tried again up to 16 times in a row. Any other error of the reader is a fault.
+#[derive(Drop)]
+pub struct StdinSource<R: Read + Drop> {
+    reader: R,
+    faults: u64,
+}
+
+impl<R: Read + Drop> Model for StdinSource<R> {
+    ghost use Rattle.std.specs.Prelude.{◌<◌, ◌^◌};
+    ghost use Rattle.flux_outside.specs.Real.{Reading};
+
+    ghost Value = { Reading };
+
+    ghost view = { λ s. record { left = R.remaining s.reader; faults = s.faults } };
+
+    ghost invariant = { λ s. s.faults < 2 ^ 64 };
+}
+
+impl<R: Read + Drop> StdinSource<R> {
+    /// The bytes of this reader, and no fault yet.
+    pub fn new(reader: R) -> StdinSource<R>
+        ensures { result ≡ record { left = R.remaining reader; faults = 0 } }
+    {
+        StdinSource { reader, faults: 0 }
+    }
+}
+
+impl<R: Read + Drop> Source for StdinSource<R> {
+    ghost left = { λ s. s.left };
+
+    ghost faults = { λ s. s.faults };
+
+    fn read(&mut self, buf: &mut [u8]) -> Result<usize, Failed>
+        ensures bound { ReadsAtMost result buf.new }
+        ensures bytes { ReadConsumes self.old.left self.new.left result buf.new }
+        ensures cause { HasCause self.old.faults self.new.faults result }
+        ensures count { OnErr result (self.new.faults ≡ next_count self.old.faults) }
+    {
+        match retry::read(&mut self.reader, buf) {
+            Ok(count) => Ok(count),
+            Err(_) => Err(count_fault(&mut self.faults)),
+        }
+    }
+}
+
+#[cfg(test)]
+mod tests {
+    use super::*;
+    use crate::fakes::FlakyReader;
+
+    #[test]
+    fn sixteen_interruptions_are_borne(rt: HostRuntime) {
+        for (interrupts, answer) in [(0, Ok(1)), (16, Ok(1)), (17, Err(Failed))] {
+            let mut buf = [0; 4];
+            let mut source = StdinSource::new(FlakyReader { interrupts });
+            assert_eq!(rt; source.read(&mut buf), answer, "at {interrupts}");
+        }
+    }
+}

@@ -1,0 +1,120 @@
+// A sink over a writer, which is flushed.
+ghost use Rattle.std.specs.Prelude.{◌≡◌, OnErr};
+ghost use Rattle.flux_outside.specs.Causes.{HasCause, next_count};
+ghost use Rattle.flux_outside.specs.Told.{PutAppends};
+
+use crate::counts::count_fault;
+use crate::retry;
+use crate::traits::{Failed, Sink};
+use std::io;
+use std::io::Write;
+use std::marker::Model;
+
+/// Standard output, or any other writer. Each put is flushed.
+///
+/// It tells what its writer tells, which is nothing for standard output. A call that is
+/// interrupted is tried again up to 16 times in a row. Any other error of the writer is a fault, and
+/// so is a write that takes nothing.
+#[derive(Drop)]
+pub struct StdoutSink<W: Write + Drop> {
+    writer: W,
+    faults: u64,
+}
+
+impl<W: Write + Drop> Model for StdoutSink<W> {
+    ghost use Rattle.std.specs.Prelude.{◌<◌, ◌^◌};
+    ghost use Rattle.flux_outside.specs.Real.{Writing};
+
+    ghost Value = { Writing };
+
+    ghost view = { λ s. record { taken = W.contents s.writer; faults = s.faults } };
+
+    ghost invariant = { λ s. s.faults < 2 ^ 64 };
+}
+
+impl<W: Write + Drop> StdoutSink<W> {
+    /// The bytes go to this writer, and there is no fault yet.
+    pub fn new(writer: W) -> StdoutSink<W>
+        ensures { result ≡ record { taken = W.contents writer; faults = 0 } }
+    {
+        StdoutSink { writer, faults: 0 }
+    }
+}
+
+// Writes the whole piece, and sends it on.
+fn write_through<W: Write>(writer: &mut W, piece: &[u8]) -> io::Result<()>
+    ensures bytes { PutAppends (W.contents writer.old) (W.contents writer.new) result piece.now }
+{
+    retry::write_whole(writer, piece)?;
+    retry::flush(writer)
+}
+
+impl<W: Write + Drop> Sink for StdoutSink<W> {
+    ghost taken = { λ s. s.taken };
+
+    ghost faults = { λ s. s.faults };
+
+    fn put(&mut self, piece: &[u8]) -> Result<(), Failed>
+        ensures bytes { PutAppends self.old.taken self.new.taken result piece.now }
+        ensures cause { HasCause self.old.faults self.new.faults result }
+        ensures count { OnErr result (self.new.faults ≡ next_count self.old.faults) }
+    {
+        match write_through(&mut self.writer, piece) {
+            Ok(()) => Ok(()),
+            Err(_) => Err(count_fault(&mut self.faults)),
+        }
+    }
+}
+
+#[cfg(test)]
+mod tests {
+    use super::*;
+    use crate::fakes::{FullWriter, SlowWriter};
+
+    #[test]
+    fn whole_pieces_are_written_and_flushed(rt: HostRuntime) {
+        for (write_interrupts, flush_interrupts, answer, flushed) in [
+            (0, 0, Ok(()), 3),
+            (16, 16, Ok(()), 3),
+            (17, 0, Err(Failed), 0),
+            (0, 17, Err(Failed), 0),
+        ] {
+            let writer = SlowWriter {
+                taken: Vec::new(rt.alloc()),
+                flushed: 0,
+                write_interrupts,
+                flush_interrupts,
+                waited: 0,
+            };
+            let mut sink = StdoutSink::new(writer);
+            assert_eq!(rt;
+                sink.put(b"abc"),
+                answer,
+                "at {write_interrupts} {flush_interrupts}"
+            );
+            assert_eq!(rt; sink.writer.flushed, flushed);
+        }
+    }
+
+    #[test]
+    fn bytes_arrive_in_order(rt: HostRuntime) {
+        let writer = SlowWriter {
+            taken: Vec::new(rt.alloc()),
+            flushed: 0,
+            write_interrupts: 1,
+            flush_interrupts: 0,
+            waited: 0,
+        };
+        let mut sink = StdoutSink::new(writer);
+        assert_eq!(rt; sink.put(b"abc"), Ok(()));
+        assert_eq!(rt; sink.put(b"de"), Ok(()));
+        assert_eq!(rt; sink.writer.taken.as_slice(), b"abcde".as_slice());
+    }
+
+    #[test]
+    fn a_write_that_takes_nothing_is_a_fault(rt: HostRuntime) {
+        let mut sink = StdoutSink::new(FullWriter);
+        assert_eq!(rt; sink.put(b"abc"), Err(Failed));
+        assert_eq!(rt; sink.put(b""), Ok(()));
+    }
+}
