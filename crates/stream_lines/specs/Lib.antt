@@ -1,0 +1,5 @@
+pub mod Waiting
+pub mod Follows
+pub mod Lent
+pub mod Kept
+pub mod Cuts
