@@ -1,0 +1,9 @@
+use Rattle.std.proofs.Common.{sym, ap, ◌∙◌}
+use Rattle.flux_model.specs.declared.graph.Update.TheVariants.{DropEdge}
+use Rattle.line_grammar.specs.Left.{words_left}
+use Rattle.line_grammar.specs.Parts.{said_by, triple_of}
+use Rattle.line_grammar.proofs.FormLemmas.{map_said, read_edge-map}
+use Rattle.line_grammar.proofs.forms.dropped_edge.Goals as goal
+
+pub returns-in-Err : goal.returns-in-Err
+returns-in-Err c = ap (map_said DropEdge) (ap said_by (sym c.in-Err.is) ∙ c.in_ok-triple.ensures) ∙ read_edge-map DropEdge triple_of (words_left c.args.words)
