@@ -1,0 +1,7 @@
+-- What a graph kept under limits is.
+use Rattle.flux_model.specs.Graph.{LimitedGraph, IsGraph, IsWithin}
+
+-- a graph that does not pass its limits
+pub record IsKept (kept : LimitedGraph) : Type 0 where
+  pub graph : IsGraph kept.graph
+  pub within : IsWithin kept.limits kept.graph
