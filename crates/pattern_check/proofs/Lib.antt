@@ -1,0 +1,4 @@
+pub mod ListLemmas
+pub mod OpenLemmas
+pub mod NameLemmas
+pub mod MarkLemmas
