@@ -1,0 +1,7 @@
+pub mod GrownLemmas
+pub mod WordsLemmas
+pub mod BlockLemmas
+pub mod SortedLemmas
+pub mod EmbeddingsLemmas
+pub mod CallerLemmas
+pub mod TriangleLemmas
