@@ -1,0 +1,7 @@
+use Rattle.std.proofs.Common.{◌≡◌, take}
+use Rattle.watch_cli.specs.Deltas.{embeddings_of}
+use Rattle.watch_cli.proofs.embeddings.all_embeddings.Given as goal
+
+-- those of the patterns so far
+abbrev pub invariant-loop-k : goal.invariant-loop-k
+invariant-loop-k l = l.found.items ≡ embeddings_of l.graph.graph (take l.k l.patterns)

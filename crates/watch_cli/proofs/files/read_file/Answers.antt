@@ -1,0 +1,71 @@
+use Rattle.std.proofs.Common.{◌≡◌, ◌+◌, ◌≤◌, length, take, ◌∙◌, arith, Ok, rules}
+use Rattle.std.proofs.lemmas.Result.{err_from_is_err_and, on_ok_weaker, IfErr-weaker}
+use Rattle.std.proofs.lemmas.Grind.{common_steps}
+use Rattle.flux_model.specs.Seen.{seen_line}
+use Rattle.watch_cli.proofs.FileLemmas.{told_at_first, piece_len, lines_fit, some_lines_fit, FileRead-next, FileStop-refused, FileRead-at_limit, FileRead-none, FileRead-last, FileStop-last}
+use Rattle.watch_cli.proofs.files.read_file.Goals as goal
+
+pub returns-then-count-room-clause-stop : goal.returns-then-count-room-clause-stop
+returns-then-count-room-clause-stop g c =
+    let bound : c.in-Ok-Some.count ≤ length c.read.new.buf = rw c.in-Ok-Some.field-0-is at c.in-Ok-Some.ensures.bound in
+    let asked : length c.read.new.buf ≡ c.ask_for.result = grind (arith, common_steps) in
+    let full : c.loop-count.given ≡ c.args.limits.now.input_bytes = omega (arith, bound, asked, c.loop-count.invariant.within, c.if-count-room.true, c.ask_for.ensures.within) in
+    FileRead-at_limit g.T.TakeLine.after_line c.args.limits.now.line_bytes c.args.limits.now.input_bytes c.loop-count.given c.in-Ok-Some.count _ _ _ _ _ _ c.read.new.buf full c.loop-count.invariant.read
+    (told_at_first _ _ c.args.name.now c.read.new.buf c.in-Ok-Some.field-0 c.loop-count.given c.in-Ok-Some.count c.loop-count.invariant.same c.in-Ok-Some.field-0-is c.in-Ok-Some.ensures.bytes)
+    (omega arith)
+
+pub take_waiting-requires-clause-fits : goal.take_waiting-requires-clause-fits
+take_waiting-requires-clause-fits g c =
+    let bound : c.in-Ok-Some.count ≤ length c.read.new.buf = rw c.in-Ok-Some.field-0-is at c.in-Ok-Some.ensures.bound in
+    let fit : c.loop-count.number + length c.push.new.self.queue ≤ c.loop-count.given + c.in-Ok-Some.count = lines_fit g.T.TakeLine.after_line c.args.limits.now.line_bytes c.loop-count.given c.in-Ok-Some.count _ _ _ _ c.push.new.self _ _ (take c.in-Ok-Some.count c.read.new.buf) c.loop-count.invariant.read c.in-Ok-push.ensures.lines (piece_len c.in-Ok-Some.count c.read.new.buf bound) in
+    omega (arith, fit, c.loop-count.invariant.within, c.if-count-room.false, c.requires.fair.input_bytes.1)
+
+pub returns-in_err-number-clause-stop : goal.returns-in_err-number-clause-stop
+returns-in_err-number-clause-stop g c =
+    let p = err_from_is_err_and c.from_residual.result c.from_residual.ensures.1 in
+    rw (p.1, p.2) (FileStop-refused g.T.TakeLine.after_line c.args.limits.now.line_bytes c.loop-count.given c.in-Ok-Some.count _ _ _ _ c.push.new.self _ _ c.read.new.buf _ _ _ _ _ c.loop-count.invariant.read
+    (told_at_first _ _ c.args.name.now c.read.new.buf c.in-Ok-Some.field-0 c.loop-count.given c.in-Ok-Some.count c.loop-count.invariant.same c.in-Ok-Some.field-0-is c.in-Ok-Some.ensures.bytes)
+    c.in-Ok-push.ensures.lines c.in_err-number.ensures.stop)
+
+pub loop-count-preserved : goal.loop-count-preserved
+loop-count-preserved g c =
+    let bound : c.in-Ok-Some.count ≤ length c.read.new.buf = rw c.in-Ok-Some.field-0-is at c.in-Ok-Some.ensures.bound in
+    record {
+      within = omega (arith, c.if-count-room.false, c.loop-count.invariant.within);
+      buffer = c.loop-count.invariant.buffer;
+      read = FileRead-next g.T.TakeLine.after_line c.args.limits.now.line_bytes c.loop-count.given c.in-Ok-Some.count _ _ _ _ _ _ c.push.new.self _ _ _ c.read.new.buf c.loop-count.invariant.read
+          (told_at_first _ _ c.args.name.now c.read.new.buf c.in-Ok-Some.field-0 c.loop-count.given c.in-Ok-Some.count c.loop-count.invariant.same c.in-Ok-Some.field-0-is c.in-Ok-Some.ensures.bytes)
+          (piece_len c.in-Ok-Some.count c.read.new.buf bound) c.in-Ok-push.ensures.lines c.in-Ok-push.ensures.line_bytes
+          c.in_ok-number.ensures.ok c.in_ok-number.ensures.number c.in_ok-number.ensures.waiting;
+      ready = c.in_ok-number.ensures.ready;
+      same = c.in-Ok-Some.ensures.same ∙ c.loop-count.invariant.same;
+      later = omega (arith, c.loop-count.invariant.later, c.in-Ok-Some.ensures.cause.later);
+    }
+
+pub returns-in-None-clause-ok : goal.returns-in-None-clause-ok
+returns-in-None-clause-ok g c =
+    FileRead-none g.T.TakeLine.after_line c.args.limits.now.line_bytes c.loop-count.given c.in-Ok-Some.count _ _ _ _ _ _ c.read.new.buf c.loop-count.invariant.read
+    (told_at_first _ _ c.args.name.now c.read.new.buf c.in-Ok-Some.field-0 c.loop-count.given c.in-Ok-Some.count c.loop-count.invariant.same c.in-Ok-Some.field-0-is c.in-Ok-Some.ensures.bytes)
+    (omega (arith, c.if-count-eq0.true)) (grind (arith, common_steps)) c.in-None.ensures.lines
+
+pub overflow_add-number : goal.overflow_add-number
+overflow_add-number g c =
+    let fit : c.loop-count.number ≤ c.loop-count.given = some_lines_fit g.T.TakeLine.after_line c.args.limits.now.line_bytes _ _ _ _ _ _ _ c.loop-count.invariant.read in
+    let few : c.loop-count.number ≤ 17179869184 = omega (arith, fit, c.loop-count.invariant.within, c.requires.fair.input_bytes.1) in
+    search (rules, few)
+
+pub returns-clause-ok : goal.returns-clause-ok
+returns-clause-ok g c =
+    on_ok_weaker c.take_line.result
+    (λ taken. FileRead-last g.T.TakeLine.after_line c.args.limits.now.line_bytes c.loop-count.given c.in-Ok-Some.count _ _ _ _ _ _ c.read.new.buf (seen_line c.in-Some.line) (Ok c.take_line.new.file) c.loop-count.invariant.read
+    (told_at_first _ _ c.args.name.now c.read.new.buf c.in-Ok-Some.field-0 c.loop-count.given c.in-Ok-Some.count c.loop-count.invariant.same c.in-Ok-Some.field-0-is c.in-Ok-Some.ensures.bytes)
+    (omega (arith, c.if-count-eq0.true)) (grind (arith, common_steps)) c.in-Some.ensures.lines taken)
+    c.take_line.ensures.ok
+
+pub returns-clause-stop : goal.returns-clause-stop
+returns-clause-stop g c =
+    IfErr-weaker c.take_line.result _ _
+    (λ s stopped. FileStop-last g.T.TakeLine.after_line c.args.limits.now.line_bytes c.loop-count.given c.in-Ok-Some.count _ _ _ _ _ _ c.read.new.buf (seen_line c.in-Some.line) _ _ _ _ s c.loop-count.invariant.read
+    (told_at_first _ _ c.args.name.now c.read.new.buf c.in-Ok-Some.field-0 c.loop-count.given c.in-Ok-Some.count c.loop-count.invariant.same c.in-Ok-Some.field-0-is c.in-Ok-Some.ensures.bytes)
+    (omega (arith, c.if-count-eq0.true)) (grind (arith, common_steps)) c.in-Some.ensures.lines stopped)
+    c.take_line.ensures.stop

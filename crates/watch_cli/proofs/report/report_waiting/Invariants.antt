@@ -1,0 +1,16 @@
+use Rattle.std.proofs.Common.{◌≡◌, ◌≤◌, ◌+◌, length}
+use Rattle.watch_cli.specs.Session.{said_by}
+use Rattle.watch_cli.proofs.ReportLemmas.{Reported}
+use Rattle.watch_cli.proofs.report.report_waiting.Given as goal
+
+-- what was put, what waits in the report and the blocks of the lines that wait are all blocks
+abbrev pub invariant-loop-line : goal.invariant-loop-line
+invariant-loop-line g l = record {
+  reported : Reported (g.W.Sink.taken l.fn.out) (g.W.Sink.taken l.out) l.report.items l.fn.session l.session (said_by l.fn.lines.queue) (said_by l.lines.queue);
+  count : l.session.lines + length l.lines.queue ≡ l.fn.session.lines + length l.fn.lines.queue;
+  same : l.lines ≡ record l.fn.lines { queue = l.lines.queue };
+  later : g.W.Sink.faults l.fn.out ≤ g.W.Sink.faults l.out;
+}
+
+abbrev pub decreases-loop-line : goal.decreases-loop-line
+decreases-loop-line g l = length l.lines.queue

@@ -1,0 +1,16 @@
+use Rattle.std.proofs.Common.{◌≡◌, ◌≤◌, ◌-◌, [], vec_len}
+use Rattle.watch_cli.specs.Progress.{Followed}
+use Rattle.watch_cli.proofs.updates.follow.Given as goal
+
+abbrev pub invariant-loop-count : goal.invariant-loop-count
+invariant-loop-count g l = record {
+  within : l.given ≤ l.limits.input_bytes;
+  buffer : vec_len l.buffer ≡ 65536;
+  empty : l.report.items ≡ [];
+  followed : Followed l.limits.line_bytes l.given (g.S.Source.left l.fn.updates) (g.S.Source.left l.updates) (g.W.Sink.taken l.fn.out) (g.W.Sink.taken l.out) l.fn.session l.session l.lines;
+  read_later : g.S.Source.faults l.fn.updates ≤ g.S.Source.faults l.updates;
+  later : g.W.Sink.faults l.fn.out ≤ g.W.Sink.faults l.out;
+}
+
+abbrev pub decreases-loop-count : goal.decreases-loop-count
+decreases-loop-count g l = l.limits.input_bytes - l.given

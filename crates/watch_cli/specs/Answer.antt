@@ -1,0 +1,9 @@
+-- What a line came to, as the session counts it.
+use Rattle.flux_model.specs.Report.{Outcome, Ignored, Rejected, Changed}
+use Rattle.watch_cli.specs.declared.session.Answer.{Answer}
+use Rattle.watch_cli.specs.declared.session.Answer.TheVariants as answer
+
+abbrev pub answer_of : Outcome → Answer
+answer_of Ignored = answer.Ignored
+answer_of (Rejected _) = answer.Refused
+answer_of (Changed _) = answer.Accepted

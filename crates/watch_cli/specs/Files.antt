@@ -1,0 +1,15 @@
+-- What a file holds, where the shelf tells it.
+use Rattle.std.specs.Prelude.{◌≡◌, ℕ, ◌<◌, List, length, Option, None, IfSome, MatchOption}
+use Rattle.flux_outside.specs.Told.{Files}
+
+-- the name is there, and its bytes are as P says
+abbrev pub HasFile : Option Files → List ℕ → (List ℕ → Type 0) → Type 0
+HasFile files name P = IfSome files (λ m. MatchOption (m name) ⊥ P)
+
+-- there is no such name
+abbrev pub IsAbsent : Option Files → List ℕ → Type 0
+IsAbsent files name = IfSome files (λ m. m name ≡ None)
+
+-- the name has more than n bytes
+abbrev pub IsLonger : Option Files → List ℕ → ℕ → Type 0
+IsLonger files name n = HasFile files name (λ bytes. n < length bytes)

@@ -1,0 +1,13 @@
+pub mod Words
+pub mod Status
+pub mod Files
+pub mod Session
+pub mod Answer
+pub mod Deltas
+pub mod Wrote
+pub mod Due
+pub mod Stops
+pub mod Halts
+pub mod Progress
+pub mod Taking
+pub mod Narrow

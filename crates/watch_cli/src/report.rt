@@ -1,0 +1,130 @@
+//! Blocks are gathered in a report, which is put when it is long, and before the next read.
+ghost use Rattle.std.specs.Prelude.{◌≡◌, ◌≤◌, ◌<◌, ◌+◌, ◌^◌, ◌++◌, [], length, OnOk, OnErr, IfErr};
+ghost use Rattle.std.specs.Io.KnownBytes.{Appends};
+ghost use Rattle.flux_outside.specs.Told.{AppendsFront};
+ghost use Rattle.flux_model.specs.Seen.{seen_line};
+ghost use Rattle.watch_cli.specs.Narrow.{narrow_update_reading};
+ghost use Rattle.watch_cli.specs.Session.{after_said, after_all, next_block, next_blocks, said_by, last_text, end_text};
+ghost use Rattle.stream_lines.specs.Lent.{one_line};
+ghost use Rattle.watch_cli.specs.Wrote.{Wrote};
+ghost use Rattle.watch_cli.specs.Stops.{WriteStop};
+
+use crate::session::Session;
+use crate::stop::Stop;
+use flux_model::Line;
+use flux_outside::Sink;
+use std::alloc::Global;
+use stream_lines::Lines;
+
+/// How long a report may grow before it is put.
+const LONG: usize = 65536;
+
+/// Puts the report, if there is one, and begins a new one.
+pub fn put_report<W: Sink>(report: &mut Vec<u8>, out: &mut W) -> Result<(), Stop>
+    ensures ok { OnOk result (Appends (W.taken out.old) (W.taken out.new) report.old.items) }
+    ensures empty { OnOk result (report.new.items ≡ []) }
+    ensures err { OnErr result (AppendsFront (W.taken out.old) (W.taken out.new) report.old.items) }
+    ensures later { W.faults out.old ≤ W.faults out.new }
+    ensures stop { IfErr result (WriteStop (W.faults out.old) (W.faults out.new)) }
+{
+    if report.is_empty() {
+        return Ok(());
+    }
+    match out.put(report.as_slice()) {
+        Ok(()) => {
+            report.clear();
+            Ok(())
+        }
+        Err(_) => Err(Stop::Write),
+    }
+}
+
+/// Takes a line, and adds its block to the report. Where memory is refused, what was gathered is put first.
+pub fn report_line<W: Sink>(
+    alloc: Global,
+    session: &mut Session,
+    line: &Line<'_>,
+    report: &mut Vec<u8>,
+    out: &mut W,
+) -> Result<(), Stop>
+    requires { session.old.lines < 2 ^ 60 }
+    ensures after { OnOk result (session.new ≡ after_said session.old (narrow_update_reading (seen_line line.now))) }
+    ensures ok { OnOk result (Wrote (W.taken out.old) (W.taken out.new) report.old.items report.new.items
+        (next_block session.old (narrow_update_reading (seen_line line.now)))) }
+    ensures err { OnErr result (AppendsFront (W.taken out.old) (W.taken out.new)
+        (report.old.items ++ next_block session.old (narrow_update_reading (seen_line line.now)))) }
+    ensures later { W.faults out.old ≤ W.faults out.new }
+    ensures stop { IfErr result (WriteStop (W.faults out.old) (W.faults out.new)) }
+{
+    let Ok(()) = session.line(alloc, line, report) else {
+        let _ = put_report(report, out);
+        return Err(Stop::Memory);
+    };
+    if report.len() < LONG {
+        return Ok(());
+    }
+    put_report(report, out)
+}
+
+/// Takes every line that waits, and puts the blocks.
+pub fn report_waiting<W: Sink>(
+    alloc: Global,
+    session: &mut Session,
+    lines: &mut Lines,
+    report: &mut Vec<u8>,
+    out: &mut W,
+) -> Result<(), Stop>
+    requires fits { session.old.lines + length lines.old.queue ≤ 2 ^ 60 }
+    requires empty { report.old.items ≡ [] }
+    ensures after { OnOk result (session.new ≡ after_all session.old (said_by lines.old.queue)) }
+    ensures ok { OnOk result (Appends (W.taken out.old) (W.taken out.new) (next_blocks session.old (said_by lines.old.queue))) }
+    ensures empty { OnOk result (report.new.items ≡ []) }
+    ensures waiting { OnOk result (lines.new ≡ record lines.old { queue = [] }) }
+    ensures err { OnErr result (AppendsFront (W.taken out.old) (W.taken out.new) (next_blocks session.old (said_by lines.old.queue))) }
+    ensures later { W.faults out.old ≤ W.faults out.new }
+    ensures stop { IfErr result (WriteStop (W.faults out.old) (W.faults out.new)) }
+{
+    while let Some(line) = lines.first() {
+        report_line(alloc, session, &line, report, out)?;
+        lines.pass();
+    }
+    put_report(report, out)
+}
+
+/// Takes the last line, if there is one, and puts its block and the end line.
+pub fn report_end<W: Sink>(
+    alloc: Global,
+    session: &mut Session,
+    last: Option<Line<'_>>,
+    report: &mut Vec<u8>,
+    out: &mut W,
+) -> Result<(), Stop>
+    requires fits { session.old.lines < 2 ^ 60 }
+    requires empty { report.old.items ≡ [] }
+    ensures ok { OnOk result (Appends (W.taken out.old) (W.taken out.new) (last_text session.old (said_by (one_line last.entry)))) }
+    ensures err { OnErr result (AppendsFront (W.taken out.old) (W.taken out.new) (last_text session.old (said_by (one_line last.entry)))) }
+    ensures later { W.faults out.old ≤ W.faults out.new }
+    ensures stop { IfErr result (WriteStop (W.faults out.old) (W.faults out.new)) }
+{
+    match last {
+        None => end_report(session, report, out),
+        Some(line) => {
+            report_line(alloc, session, &line, report, out)?;
+            end_report(session, report, out)
+        }
+    }
+}
+
+/// Puts the report with the end line behind it. Where memory is refused, what was gathered is put first.
+fn end_report<W: Sink>(session: &Session, report: &mut Vec<u8>, out: &mut W) -> Result<(), Stop>
+    ensures ok { OnOk result (Appends (W.taken out.old) (W.taken out.new) (report.old.items ++ end_text session.now)) }
+    ensures err { OnErr result (AppendsFront (W.taken out.old) (W.taken out.new) (report.old.items ++ end_text session.now)) }
+    ensures later { W.faults out.old ≤ W.faults out.new }
+    ensures stop { IfErr result (WriteStop (W.faults out.old) (W.faults out.new)) }
+{
+    let Ok(()) = session.end(report) else {
+        let _ = put_report(report, out);
+        return Err(Stop::Memory);
+    };
+    put_report(report, out)
+}
