@@ -162,7 +162,6 @@ module _ {S : Type 0} (step : ℕ → S → InputLine → Result S Bad) (n : ℕ
   FileStop-refused given count taken first now w0 w1 files name buf before after absent long (stop.Bad bad) so told follows read =
       FileRead-refused given count taken first now w0 w1 files name buf bad so told follows read
   FileStop-refused given count taken first now w0 w1 files name buf before after absent long stop.Read so told follows read = absurd read
-  FileStop-refused given count taken first now w0 w1 files name buf before after absent long stop.Write so told follows read = absurd read
   FileStop-refused given count taken first now w0 w1 files name buf before after absent long stop.NoFile so told follows read = absurd read
   FileStop-refused given count taken first now w0 w1 files name buf before after absent long stop.TooMuch so told follows read = absurd read
 
@@ -238,6 +237,5 @@ module _ {S : Type 0} (step : ℕ → S → InputLine → Result S Bad) (n : ℕ
   FileStop-last given count taken first now w files name buf line before after absent long (stop.Bad bad) so told zero room ended e =
       FileRead-last given count taken first now w files name buf line (Err bad) so told zero room ended e
   FileStop-last given count taken first now w files name buf line before after absent long stop.Read so told zero room ended e = absurd e
-  FileStop-last given count taken first now w files name buf line before after absent long stop.Write so told zero room ended e = absurd e
   FileStop-last given count taken first now w files name buf line before after absent long stop.NoFile so told zero room ended e = absurd e
   FileStop-last given count taken first now w files name buf line before after absent long stop.TooMuch so told zero room ended e = absurd e

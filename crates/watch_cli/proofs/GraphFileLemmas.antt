@@ -10,7 +10,7 @@ use Rattle.flux_model.specs.Lines.{InputLine}
 use Rattle.flux_model.specs.FileReading.{result_and_then}
 use Rattle.flux_model.specs.Graph.{Graph, LimitedGraph, IsGraph, apply, refuse, has_triple, has_both_ends, has_vertex, triple_cmp, name_count, with_triple}
 use Rattle.flux_model.specs.GraphFile.{at_line, graph_after_line, is_repeated_edge}
-use Rattle.watch_cli.specs.Narrow.{narrow_graph_reading}
+use Rattle.flux_model.specs.Reading.{graph_reading}
 use Rattle.flux_model.specs.declared.code.Code.{Code}
 use Rattle.flux_model.specs.declared.code.Code.TheVariants as code
 use Rattle.flux_model.specs.declared.said.Said.TheVariants.{Says}
@@ -73,7 +73,7 @@ exists-first false d c g ends e = cc
 same_kept : (s t : LimitedGraph) → t.limits ≡ s.limits → record s { graph = t.graph } ≡ t
 same_kept s t e = ap (λ (l : Limits). record t { limits = l }) (sym e)
 
-says : (k : ℕ) (s t : LimitedGraph) (line : InputLine) (update : Update) → narrow_graph_reading line ≡ Says update → t.limits ≡ s.limits
+says : (k : ℕ) (s t : LimitedGraph) (line : InputLine) (update : Update) → graph_reading line ≡ Says update → t.limits ≡ s.limits
     → graph_after_line s.limits k s.graph (Says update) ≡ Ok t.graph → after_graph_line k s line ≡ Ok t
 says k s t line update reads limits e =
     ap (λ said. result_and_then (λ g. Ok (record s { graph = g })) (graph_after_line s.limits k s.graph said)) reads
@@ -91,12 +91,12 @@ no_repeat limits g h (DropEdge x) e = refl
 no_repeat limits g h (AddEdge x) e =
     (refuse-ok (has_triple g x) code.Exists _ h (refuse-ok (not (has_both_ends g x)) code.NoVertex _ h e).1).0
 
-pub line-changes : (k : ℕ) (s t : LimitedGraph) (line : InputLine) (update : Update) → narrow_graph_reading line ≡ Says update → t.limits ≡ s.limits
+pub line-changes : (k : ℕ) (s t : LimitedGraph) (line : InputLine) (update : Update) → graph_reading line ≡ Says update → t.limits ≡ s.limits
     → apply s.limits s.graph update ≡ Ok t.graph → after_graph_line k s line ≡ Ok t
 line-changes k s t line update reads limits e =
     says k s t line update reads limits (changes s.limits k s.graph update (no_repeat s.limits s.graph t.graph update e) ∙ ap (at_line k) e)
 
-pub line-repeats : (k : ℕ) (s t : LimitedGraph) (line : InputLine) (update : Update) (c : Code) → narrow_graph_reading line ≡ Says update → t ≡ s
+pub line-repeats : (k : ℕ) (s t : LimitedGraph) (line : InputLine) (update : Update) (c : Code) → graph_reading line ≡ Says update → t ≡ s
     → apply s.limits s.graph update ≡ Err c → is_repeat update c ≡ true → after_graph_line k s line ≡ Ok t
 line-repeats k s t line (AddVertex id labels) c reads same e is = cc
 line-repeats k s t line (DropVertex id) c reads same e is = cc
@@ -123,7 +123,7 @@ refused_no_repeat limits g (AddEdge x) c is e other = by (has_triple g x) refl
         let repeated : c ≡ code.Exists = exists-first (not (has_both_ends g x)) (nat_le limits.edges (length g.triples) || nat_lt limits.labels (name_count g (x.label ∷ []))) c (with_triple g x) ends after in
         absurd (let so : true ≡ false = ap (is_repeat (AddEdge x)) (sym repeated) ∙ other in cc)
 
-pub line-refused : (k : ℕ) (s : LimitedGraph) (line : InputLine) (update : Update) (c : Code) → narrow_graph_reading line ≡ Says update → IsGraph s.graph
+pub line-refused : (k : ℕ) (s : LimitedGraph) (line : InputLine) (update : Update) (c : Code) → graph_reading line ≡ Says update → IsGraph s.graph
     → apply s.limits s.graph update ≡ Err c → is_repeat update c ≡ false → after_graph_line k s line ≡ Err (record { line = k; code = c })
 line-refused k s line update c reads is e other =
     ap (λ said. result_and_then (λ g. Ok (record s { graph = g })) (graph_after_line s.limits k s.graph said)) reads

@@ -4,10 +4,10 @@ use Rattle.flux_outside.specs.Told.{Files}
 use Rattle.flux_model.specs.Lines.{whole, lines}
 use Rattle.flux_model.specs.FileReading.{result_and_then, read_from}
 use Rattle.flux_model.specs.Graph.{Graph, LimitedGraph, empty_graph}
-use Rattle.flux_model.specs.GraphFile.{graph_after_line}
+use Rattle.flux_model.specs.GraphFile.{graph_after_line, graph_of}
 use Rattle.flux_model.specs.Pattern.{PatternGraph}
-use Rattle.flux_model.specs.PatternFile.{Draft, empty_draft, close}
-use Rattle.watch_cli.specs.Narrow.{narrow_graph_reading, narrow_pattern_reading, narrow_graph_of, narrow_patterns_of, one_pattern_after_line}
+use Rattle.flux_model.specs.PatternFile.{Draft, empty_draft, patterns_after_line, close, patterns_of}
+use Rattle.flux_model.specs.Reading.{graph_reading, pattern_reading}
 use Rattle.flux_model.specs.declared.code.Bad.{Bad}
 use Rattle.flux_model.specs.declared.limits.Limits.{Limits}
 use Rattle.pattern_check.specs.Reading.{PatternReading}
@@ -50,15 +50,15 @@ refused_within wrap (Err b) bad e = cc
 abbrev kept_under : Limits → Graph → LimitedGraph
 kept_under limits g = record { limits = limits; graph = g }
 
-pub graph-read : (limits : Limits) (bytes : List ℕ) → read_from after_graph_line 1 (record { limits = limits; graph = empty_graph }) (lines limits.line_bytes bytes) ≡ result_and_then (λ g. Ok (kept_under limits g)) (narrow_graph_of limits bytes)
-graph-read limits bytes = read_from-wrapped (graph_after_line limits) narrow_graph_reading (kept_under limits) after_graph_line (λ k s line. refl) 1 empty_graph (lines limits.line_bytes bytes)
+pub graph-read : (limits : Limits) (bytes : List ℕ) → read_from after_graph_line 1 (record { limits = limits; graph = empty_graph }) (lines limits.line_bytes bytes) ≡ result_and_then (λ g. Ok (kept_under limits g)) (graph_of limits bytes)
+graph-read limits bytes = read_from-wrapped (graph_after_line limits) graph_reading (kept_under limits) after_graph_line (λ k s line. refl) 1 empty_graph (lines limits.line_bytes bytes)
 
 pub graph-accepted : (limits : Limits) (files : Option Files) (name : List ℕ) (first now : LimitedGraph) → first ≡ record { limits = limits; graph = empty_graph }
-    → HasFile files name (λ b. read_from after_graph_line 1 first (lines limits.line_bytes b) ≡ Ok now) → HasFile files name (λ b. (narrow_graph_of limits b ≡ Ok now.graph) × (now.limits ≡ limits))
+    → HasFile files name (λ b. read_from after_graph_line 1 first (lines limits.line_bytes b) ≡ Ok now) → HasFile files name (λ b. (graph_of limits b ≡ Ok now.graph) × (now.limits ≡ limits))
 graph-accepted limits files name first now is h =
-    HasFile-map files name (λ b. read_from after_graph_line 1 first (lines limits.line_bytes b) ≡ Ok now) (λ b. (narrow_graph_of limits b ≡ Ok now.graph) × (now.limits ≡ limits))
+    HasFile-map files name (λ b. read_from after_graph_line 1 first (lines limits.line_bytes b) ≡ Ok now) (λ b. (graph_of limits b ≡ Ok now.graph) × (now.limits ≡ limits))
     (λ b e.
-    let u = unwrapped (kept_under limits) (narrow_graph_of limits b) now (sym (graph-read limits b) ∙ ap (λ s. read_from after_graph_line 1 s (lines limits.line_bytes b)) (sym is) ∙ e) in
+    let u = unwrapped (kept_under limits) (graph_of limits b) now (sym (graph-read limits b) ∙ ap (λ s. read_from after_graph_line 1 s (lines limits.line_bytes b)) (sym is) ∙ e) in
     (u.1 ∙ ap (λ (l : LimitedGraph). Ok l.graph) u.2, sym (ap (λ (l : LimitedGraph). l.limits) u.2)))
     h
 
@@ -66,16 +66,15 @@ pub graph-stops : (limits : Limits) (files : Option Files) (name : List ℕ) (fi
     → FileStop before after (IsAbsent files name)
     (HasFile files name (λ b. (limits.input_bytes < length b) × (read_from after_graph_line 1 first (whole limits.line_bytes (take limits.input_bytes b)) ≡ Ok now)))
     (λ bad. HasFile files name (λ b. read_from after_graph_line 1 first (lines limits.line_bytes b) ≡ Err bad)) s
-    → FileStop before after (IsAbsent files name) (IsLonger files name limits.input_bytes) (λ bad. HasFile files name (λ b. narrow_graph_of limits b ≡ Err bad)) s
+    → FileStop before after (IsAbsent files name) (IsLonger files name limits.input_bytes) (λ bad. HasFile files name (λ b. graph_of limits b ≡ Err bad)) s
 graph-stops limits files name first now before after stop.Memory is h = tt
 graph-stops limits files name first now before after stop.Read is h = h
-graph-stops limits files name first now before after stop.Write is h = h
 graph-stops limits files name first now before after stop.NoFile is h = h
 graph-stops limits files name first now before after stop.TooMuch is h =
     HasFile-map files name (λ b. (limits.input_bytes < length b) × (read_from after_graph_line 1 first (whole limits.line_bytes (take limits.input_bytes b)) ≡ Ok now)) (λ b. limits.input_bytes < length b) (λ b e. e.0) h
 graph-stops limits files name first now before after (stop.Bad bad) is h =
-    HasFile-map files name (λ b. read_from after_graph_line 1 first (lines limits.line_bytes b) ≡ Err bad) (λ b. narrow_graph_of limits b ≡ Err bad)
-    (λ b e. refused_within (kept_under limits) (narrow_graph_of limits b) bad (sym (graph-read limits b) ∙ ap (λ s. read_from after_graph_line 1 s (lines limits.line_bytes b)) (sym is) ∙ e))
+    HasFile-map files name (λ b. read_from after_graph_line 1 first (lines limits.line_bytes b) ≡ Err bad) (λ b. graph_of limits b ≡ Err bad)
+    (λ b e. refused_within (kept_under limits) (graph_of limits b) bad (sym (graph-read limits b) ∙ ap (λ s. read_from after_graph_line 1 s (lines limits.line_bytes b)) (sym is) ∙ e))
     h
 
 -- ---- pattern files
@@ -84,15 +83,15 @@ abbrev reading_under : Limits → Draft → PatternReading
 reading_under limits draft = record { limits = limits; draft = draft; spent = false }
 
 abbrev drafted : Limits → List ℕ → Result Draft Bad
-drafted limits bytes = read_from (one_pattern_after_line limits) 1 empty_draft (map narrow_pattern_reading (lines limits.line_bytes bytes))
+drafted limits bytes = read_from (patterns_after_line limits) 1 empty_draft (map pattern_reading (lines limits.line_bytes bytes))
 
 patterns-read : (limits : Limits) (bytes : List ℕ) → read_from after_pattern_line 1 (record { limits = limits; draft = empty_draft; spent = false }) (lines limits.line_bytes bytes) ≡ result_and_then (λ d. Ok (reading_under limits d)) (drafted limits bytes)
-patterns-read limits bytes = read_from-wrapped (one_pattern_after_line limits) narrow_pattern_reading (reading_under limits) after_pattern_line (λ k s line. refl) 1 empty_draft (lines limits.line_bytes bytes)
+patterns-read limits bytes = read_from-wrapped (patterns_after_line limits) pattern_reading (reading_under limits) after_pattern_line (λ k s line. refl) 1 empty_draft (lines limits.line_bytes bytes)
 
 pub patterns-closed : (limits : Limits) (files : Option Files) (name : List ℕ) (first now : PatternReading) (r : Result (List PatternGraph) Bad) → first ≡ record { limits = limits; draft = empty_draft; spent = false }
-    → HasFile files name (λ b. read_from after_pattern_line 1 first (lines limits.line_bytes b) ≡ Ok now) → r ≡ close now.draft → HasFile files name (λ b. narrow_patterns_of limits b ≡ r)
+    → HasFile files name (λ b. read_from after_pattern_line 1 first (lines limits.line_bytes b) ≡ Ok now) → r ≡ close now.draft → HasFile files name (λ b. patterns_of limits b ≡ r)
 patterns-closed limits files name first now r is h closed =
-    HasFile-map files name (λ b. read_from after_pattern_line 1 first (lines limits.line_bytes b) ≡ Ok now) (λ b. narrow_patterns_of limits b ≡ r)
+    HasFile-map files name (λ b. read_from after_pattern_line 1 first (lines limits.line_bytes b) ≡ Ok now) (λ b. patterns_of limits b ≡ r)
     (λ b e.
     let u = unwrapped (reading_under limits) (drafted limits b) now (sym (patterns-read limits b) ∙ ap (λ s. read_from after_pattern_line 1 s (lines limits.line_bytes b)) (sym is) ∙ e) in
     ap (result_and_then close) u.1 ∙ ap (λ (p : PatternReading). close p.draft) u.2 ∙ sym closed)
@@ -102,14 +101,13 @@ pub patterns-stops : (limits : Limits) (files : Option Files) (name : List ℕ) 
     → FileStop before after (IsAbsent files name)
     (HasFile files name (λ b. (limits.input_bytes < length b) × (read_from after_pattern_line 1 first (whole limits.line_bytes (take limits.input_bytes b)) ≡ Ok now)))
     (λ bad. HasFile files name (λ b. read_from after_pattern_line 1 first (lines limits.line_bytes b) ≡ Err bad)) s
-    → FileStop before after (IsAbsent files name) (IsLonger files name limits.input_bytes) (λ bad. HasFile files name (λ b. narrow_patterns_of limits b ≡ Err bad)) s
+    → FileStop before after (IsAbsent files name) (IsLonger files name limits.input_bytes) (λ bad. HasFile files name (λ b. patterns_of limits b ≡ Err bad)) s
 patterns-stops limits files name first now before after stop.Memory is h = tt
 patterns-stops limits files name first now before after stop.Read is h = h
-patterns-stops limits files name first now before after stop.Write is h = h
 patterns-stops limits files name first now before after stop.NoFile is h = h
 patterns-stops limits files name first now before after stop.TooMuch is h =
     HasFile-map files name (λ b. (limits.input_bytes < length b) × (read_from after_pattern_line 1 first (whole limits.line_bytes (take limits.input_bytes b)) ≡ Ok now)) (λ b. limits.input_bytes < length b) (λ b e. e.0) h
 patterns-stops limits files name first now before after (stop.Bad bad) is h =
-    HasFile-map files name (λ b. read_from after_pattern_line 1 first (lines limits.line_bytes b) ≡ Err bad) (λ b. narrow_patterns_of limits b ≡ Err bad)
+    HasFile-map files name (λ b. read_from after_pattern_line 1 first (lines limits.line_bytes b) ≡ Err bad) (λ b. patterns_of limits b ≡ Err bad)
     (λ b e. ap (result_and_then close) (refused_within (reading_under limits) (drafted limits b) bad (sym (patterns-read limits b) ∙ ap (λ s. read_from after_pattern_line 1 s (lines limits.line_bytes b)) (sym is) ∙ e)))
     h

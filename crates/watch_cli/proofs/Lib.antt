@@ -1,6 +1,5 @@
 pub mod FileLemmas
 pub mod GraphFileLemmas
-pub mod PatternFileLemmas
 pub mod ReportLemmas
 pub mod EmbeddingsLemmas
 pub mod SessionLemmas

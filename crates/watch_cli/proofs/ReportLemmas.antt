@@ -8,7 +8,7 @@ use Rattle.std.specs.Io.KnownBytes.{Appends, Consumes, IsAtEnd}
 use Rattle.flux_outside.specs.Told.{AppendsFront}
 use Rattle.flux_model.specs.Grown.{GrewByFront}
 use Rattle.flux_model.specs.Lines.{InputLine, held, open_end, whole, rest, lines}
-use Rattle.watch_cli.specs.Narrow.{narrow_update_reading}
+use Rattle.flux_model.specs.Reading.{update_reading}
 use Rattle.flux_model.specs.Graph.{Graph}
 use Rattle.flux_model.specs.Pattern.{PatternGraph}
 use Rattle.flux_model.specs.Report.{outcome, outcomes, blocks, next_graph, is_accepted, is_refused, end_line, watch_text}
@@ -22,9 +22,9 @@ use Rattle.stream_lines.proofs.CallerLemmas.{lines-append, length-whole, rest-ni
 use Rattle.watch_cli.specs.Session.{WatchState, first_state, said_by, counted, after_said, after_all, next_block, next_blocks, end_text, last_text}
 use Rattle.watch_cli.specs.Wrote.{Wrote}
 use Rattle.watch_cli.specs.Progress.{Followed}
-use Rattle.watch_cli.specs.Stops.{WriteStop, FollowStop}
-use Rattle.watch_cli.specs.declared.stop.Stop.{Stop}
-use Rattle.watch_cli.specs.declared.stop.Stop.TheVariants as stop
+use Rattle.watch_cli.specs.Halts.{WriteHalts, FollowHalts}
+use Rattle.watch_cli.specs.declared.halt.Halt.{Halt}
+use Rattle.watch_cli.specs.declared.halt.Halt.TheVariants as halt
 
 -- ---- the session, line by line
 
@@ -153,20 +153,20 @@ Reported-short p0 p1 p2 report1 first now all left said so front =
     (AppendsFront-after p0 p1 p2 so.part ((report1 ++ next_block now said) ++ rest) so.put (AppendsFront-longer p1 p2 (report1 ++ next_block now said) rest front))
 
 -- the first of the lines that wait
-queue-cons : (q : List InputLine) (x : InputLine) → x ∷ [] ≡ take 1 q → said_by q ≡ narrow_update_reading x ∷ said_by (drop 1 q)
+queue-cons : (q : List InputLine) (x : InputLine) → x ∷ [] ≡ take 1 q → said_by q ≡ update_reading x ∷ said_by (drop 1 q)
 queue-cons [] x e = cc
-queue-cons (y ∷ q) x e = let same : y ≡ x = cc in ap (λ z. narrow_update_reading z ∷ said_by q) same
+queue-cons (y ∷ q) x e = let same : y ≡ x = cc in ap (λ z. update_reading z ∷ said_by q) same
 
 pub Reported-turn : (p0 p1 p2 : Option (List ℕ)) (report1 report2 : List ℕ) (first now next : WatchState) (all : List (Said Update)) (q : List InputLine) (x : InputLine)
-    → x ∷ [] ≡ take 1 q → Reported p0 p1 report1 first now all (said_by q) → Wrote p1 p2 report1 report2 (next_block now (narrow_update_reading x)) → next ≡ after_said now (narrow_update_reading x)
+    → x ∷ [] ≡ take 1 q → Reported p0 p1 report1 first now all (said_by q) → Wrote p1 p2 report1 report2 (next_block now (update_reading x)) → next ≡ after_said now (update_reading x)
     → Reported p0 p2 report2 first next all (said_by (drop 1 q))
 Reported-turn p0 p1 p2 report1 report2 first now next all q x e so wrote after =
-    Reported-next p0 p1 p2 report1 report2 first now next all (said_by (drop 1 q)) (narrow_update_reading x) (subst (Reported p0 p1 report1 first now all) (queue-cons q x e) so) wrote after
+    Reported-next p0 p1 p2 report1 report2 first now next all (said_by (drop 1 q)) (update_reading x) (subst (Reported p0 p1 report1 first now all) (queue-cons q x e) so) wrote after
 
 pub Reported-stops : (p0 p1 p2 : Option (List ℕ)) (report1 : List ℕ) (first now : WatchState) (all : List (Said Update)) (q : List InputLine) (x : InputLine)
-    → x ∷ [] ≡ take 1 q → Reported p0 p1 report1 first now all (said_by q) → AppendsFront p1 p2 (report1 ++ next_block now (narrow_update_reading x)) → AppendsFront p0 p2 (next_blocks first all)
+    → x ∷ [] ≡ take 1 q → Reported p0 p1 report1 first now all (said_by q) → AppendsFront p1 p2 (report1 ++ next_block now (update_reading x)) → AppendsFront p0 p2 (next_blocks first all)
 Reported-stops p0 p1 p2 report1 first now all q x e so front =
-    Reported-short p0 p1 p2 report1 first now all (said_by (drop 1 q)) (narrow_update_reading x) (subst (Reported p0 p1 report1 first now all) (queue-cons q x e) so) front
+    Reported-short p0 p1 p2 report1 first now all (said_by (drop 1 q)) (update_reading x) (subst (Reported p0 p1 report1 first now all) (queue-cons q x e) so) front
 
 pub one_less : (q : List InputLine) (x : InputLine) → x ∷ [] ≡ take 1 q → length q ≡ length (drop 1 q) + 1
 one_less [] x e = cc
@@ -255,7 +255,7 @@ pushed n given l0 l1 p0 p1 first now w0 w1 piece so follows =
 
 -- what the lines of a front and those that wait say
 said-pushed : (n : ℕ) (bytes piece : List ℕ) (queue : List InputLine) → whole n (bytes ++ piece) ≡ whole n bytes ++ queue → said_by (whole n (bytes ++ piece)) ≡ said_by (whole n bytes) ++ said_by queue
-said-pushed n bytes piece queue e = ap said_by e ∙ map-append narrow_update_reading (whole n bytes) queue
+said-pushed n bytes piece queue e = ap said_by e ∙ map-append update_reading (whole n bytes) queue
 
 -- the number of lines stays below that of bytes
 pub lines_fit : (n given count : ℕ) (l0 l1 p0 p1 : Option (List ℕ)) (first now : WatchState) (w0 w1 : Waiting) (piece : List ℕ) → Followed n given l0 l1 p0 p1 first now w0
@@ -264,12 +264,12 @@ pub lines_fit : (n given count : ℕ) (l0 l1 p0 p1 : Option (List ℕ)) (first n
 lines_fit n given count l0 l1 p0 p1 first now w0 w1 piece so follows len =
     let add = (pushed n given l0 l1 p0 p1 first now w0 w1 piece so follows).0 in
     let before : now.lines ≡ first.lines + length (said_by (whole n so.bytes)) = ap (λ (s : WatchState). s.lines) so.state ∙ lines-after first (said_by (whole n so.bytes)) in
-    omega (arith, before, length-map (whole n so.bytes) narrow_update_reading, so.count, len, length-whole n (so.bytes ++ piece), ap length add, length-append (whole n so.bytes) w1.queue, length-append so.bytes piece)
+    omega (arith, before, length-map (whole n so.bytes) update_reading, so.count, len, length-whole n (so.bytes ++ piece), ap length add, length-append (whole n so.bytes) w1.queue, length-append so.bytes piece)
 
 pub some_lines_fit : (n given : ℕ) (l0 l1 p0 p1 : Option (List ℕ)) (first now : WatchState) (w : Waiting) → Followed n given l0 l1 p0 p1 first now w → now.lines ≤ first.lines + given
 some_lines_fit n given l0 l1 p0 p1 first now w so =
     let before : now.lines ≡ first.lines + length (said_by (whole n so.bytes)) = ap (λ (s : WatchState). s.lines) so.state ∙ lines-after first (said_by (whole n so.bytes)) in
-    omega (arith, before, length-map (whole n so.bytes) narrow_update_reading, so.count, length-whole n so.bytes)
+    omega (arith, before, length-map (whole n so.bytes) update_reading, so.count, length-whole n so.bytes)
 
 pub Followed-next : (n given count : ℕ) (l0 l1 l2 p0 p1 p2 : Option (List ℕ)) (first now next : WatchState) (w0 w1 w2 : Waiting) (piece : List ℕ) → Followed n given l0 l1 p0 p1 first now w0
     → Consumes l1 l2 piece → count ≡ length piece
@@ -301,7 +301,7 @@ front_of_text n (Some s) None p0 p1 first b read front = absurd read
 front_of_text n (Some s) (Some t) p0 p1 first b read front =
     let more : List (Said Update) = said_by (lines n (open_end b ++ t)) in
     let said : said_by (lines n s) ≡ said_by (whole n b) ++ more =
-    ap (λ z. said_by (lines n z)) read ∙ ap said_by (lines-append n b t) ∙ map-append narrow_update_reading (whole n b) (lines n (open_end b ++ t)) in
+    ap (λ z. said_by (lines n z)) read ∙ ap said_by (lines-append n b t) ∙ map-append update_reading (whole n b) (lines n (open_end b ++ t)) in
     subst (AppendsFront p0 p1) (sym (ap (last_text first) said ∙ last_text-append first (said_by (whole n b)) more))
     (AppendsFront-longer p0 p1 (next_blocks first (said_by (whole n b))) (last_text (after_all first (said_by (whole n b))) more) front)
 
@@ -329,7 +329,7 @@ whole_text n given l0 l1 p0 p1 first now w last so ended =
     let all : lines n so.bytes ≡ whole n so.bytes ++ last =
     ap (λ k. lines k so.bytes) (sym so.limit) ∙ ended so.bytes (ap (λ k. rest k so.bytes) so.limit ∙ sym so.rest) ∙ ap (λ k. whole k so.bytes ++ last) so.limit in
     ap (λ (s : WatchState). next_blocks first (said_by (whole n so.bytes)) ++ last_text s (said_by last)) so.state
-    ∙ sym (ap (λ ls. last_text first (said_by ls)) all ∙ ap (last_text first) (map-append narrow_update_reading (whole n so.bytes) last) ∙ last_text-append first (said_by (whole n so.bytes)) (said_by last))
+    ∙ sym (ap (λ ls. last_text first (said_by ls)) all ∙ ap (last_text first) (map-append update_reading (whole n so.bytes) last) ∙ last_text-append first (said_by (whole n so.bytes)) (said_by last))
 
 -- nothing was read
 pub Consumes-none : (a b : Option (List ℕ)) (buf : List ℕ) (n : ℕ) → n ≡ 0 → Consumes a b (take n buf) → Consumes a b []
@@ -366,11 +366,12 @@ pub Followed-longer : (n given count k : ℕ) (l0 l1 l2 p0 p1 : Option (List ℕ
     → Consumes l1 l2 piece → count ≡ length piece → k < given + count → IfSome l0 (λ s. k < length s)
 Followed-longer n given count k l0 l1 l2 p0 p1 first now w piece so read len lt = read_more l0 l1 l2 so.bytes piece k so.read read (omega (arith, so.count, len, lt))
 
--- why writing stopped is why following did
-pub FollowStop-write : (r0 r1 w0 w1 w2 : ℕ) (long : Type 0) (s : Stop) → w0 ≤ w1 → WriteStop w1 w2 s → FollowStop r0 r1 w0 w2 long s
-FollowStop-write r0 r1 w0 w1 w2 long stop.Memory le h = tt
-FollowStop-write r0 r1 w0 w1 w2 long stop.Write le h = omega arith
-FollowStop-write r0 r1 w0 w1 w2 long stop.Read le h = absurd h
-FollowStop-write r0 r1 w0 w1 w2 long stop.NoFile le h = absurd h
-FollowStop-write r0 r1 w0 w1 w2 long stop.TooMuch le h = absurd h
-FollowStop-write r0 r1 w0 w1 w2 long (stop.Bad bad) le h = absurd h
+-- why writing ends a run is why following does
+pub FollowHalts-write : (r0 r1 w0 w1 w2 : ℕ) (long : Type 0) (h : Halt) → w0 ≤ w1 → WriteHalts w1 w2 h → FollowHalts r0 r1 w0 w2 long h
+FollowHalts-write r0 r1 w0 w1 w2 long halt.Memory le e = tt
+FollowHalts-write r0 r1 w0 w1 w2 long halt.Write le e = omega arith
+FollowHalts-write r0 r1 w0 w1 w2 long halt.Read le e = absurd e
+FollowHalts-write r0 r1 w0 w1 w2 long halt.NoFile le e = absurd e
+FollowHalts-write r0 r1 w0 w1 w2 long halt.TooMuch le e = absurd e
+FollowHalts-write r0 r1 w0 w1 w2 long (halt.BadGraph bad) le e = absurd e
+FollowHalts-write r0 r1 w0 w1 w2 long (halt.BadPatterns bad) le e = absurd e

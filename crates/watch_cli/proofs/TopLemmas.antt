@@ -1,20 +1,22 @@
 -- What was written, and why a run halts.
-use Rattle.std.proofs.Common.{◌≡◌, ◌≤◌, ◌<◌, ℕ, List, [], length, Option, None, Some, Result, Ok, Err, IsOk, IsErr, IfSome, MatchOption, inl, inr, refl, ap, ◌∙◌, subst, arith}
+use Rattle.std.proofs.Common.{◌≡◌, ◌≤◌, ◌<◌, ℕ, List, [], length, Option, None, Some, Result, Ok, Err, IsOk, IsErr, IfSome, MatchOption, OnOk, OnErr, inl, inr, refl, ap, ◌∙◌, subst, arith}
 use Rattle.std.specs.Io.KnownBytes.{Appends}
 use Rattle.std.proofs.KnownBytes.{Appends-nil}
 use Rattle.flux_outside.specs.Told.{Files, AppendsFront}
 use Rattle.flux_model.specs.Lines.{lines}
 use Rattle.flux_model.specs.Graph.{Graph}
 use Rattle.flux_model.specs.Pattern.{PatternGraph}
-use Rattle.watch_cli.specs.Narrow.{narrow_graph_of, narrow_patterns_of}
+use Rattle.flux_model.specs.GraphFile.{graph_of}
+use Rattle.flux_model.specs.PatternFile.{patterns_of}
 use Rattle.flux_model.specs.declared.code.Bad.{Bad}
 use Rattle.flux_model.specs.declared.limits.Limits.{Limits}
 use Rattle.watch_cli.specs.Words.{Names}
 use Rattle.watch_cli.specs.Files.{HasFile, IsAbsent, IsLonger}
 use Rattle.watch_cli.specs.Session.{WatchState, first_state, said_by, last_text}
 use Rattle.watch_cli.specs.Due.{text_for, due_text, WritesAll, WritesFront, HasAccepted}
-use Rattle.watch_cli.specs.Stops.{FileStop, FollowStop}
-use Rattle.watch_cli.specs.Halts.{halt_of, HaltsWhere}
+use Rattle.watch_cli.specs.Stops.{FileStop}
+use Rattle.watch_cli.specs.Halts.{halt_of, IsGoodGraph, IsBadGraph, IsBadPatterns, OneAbsent, FollowHalts, HaltsWhere}
+use Rattle.watch_cli.specs.declared.halt.Halt.{Halt}
 use Rattle.watch_cli.specs.declared.stop.Stop.{Stop}
 use Rattle.watch_cli.specs.declared.stop.Stop.TheVariants as stop
 use Rattle.watch_cli.specs.declared.halt.Halt.TheVariants as halt
@@ -24,10 +26,10 @@ use Rattle.watch_cli.proofs.ReportLemmas.{AppendsFront-nothing, AppendsFront-all
 -- ---- the text that is due
 
 due-is : (limits : Limits) (m : Files) (names : Names) (s : List ℕ) (g : Graph) (qs : List PatternGraph)
-    → MatchOption (m names.graph) ⊥ (λ b. narrow_graph_of limits b ≡ Ok g) → MatchOption (m names.patterns) ⊥ (λ b. narrow_patterns_of limits b ≡ Ok qs) → due_text limits m names s ≡ Some (text_for limits g qs s)
+    → MatchOption (m names.graph) ⊥ (λ b. graph_of limits b ≡ Ok g) → MatchOption (m names.patterns) ⊥ (λ b. patterns_of limits b ≡ Ok qs) → due_text limits m names s ≡ Some (text_for limits g qs s)
 due-is limits m names s g qs a b = by (m names.graph) (m names.patterns) refl refl a b
   where
-    by : (x y : Option (List ℕ)) → m names.graph ≡ x → m names.patterns ≡ y → MatchOption x ⊥ (λ b. narrow_graph_of limits b ≡ Ok g) → MatchOption y ⊥ (λ b. narrow_patterns_of limits b ≡ Ok qs) → due_text limits m names s ≡ Some (text_for limits g qs s)
+    by : (x y : Option (List ℕ)) → m names.graph ≡ x → m names.patterns ≡ y → MatchOption x ⊥ (λ b. graph_of limits b ≡ Ok g) → MatchOption y ⊥ (λ b. patterns_of limits b ≡ Ok qs) → due_text limits m names s ≡ Some (text_for limits g qs s)
     by None y e f a b = absurd a
     by (Some x) None e f a b = absurd b
     by (Some x) (Some y) e f a b = rw (e, f, a, b) refl
@@ -37,9 +39,9 @@ text-is limits g qs first s is = ap (λ f. last_text f (said_by (lines limits.li
 
 -- the graph of the file, and the limits that it is kept under
 abbrev pub IsGraphOf : Limits → Limits → Graph → List ℕ → Type 0
-IsGraphOf limits kept g bytes = (narrow_graph_of limits bytes ≡ Ok g) × (kept ≡ limits)
+IsGraphOf limits kept g bytes = (graph_of limits bytes ≡ Ok g) × (kept ≡ limits)
 
-graph_of-told : (o : Option (List ℕ)) (limits kept : Limits) (g : Graph) → MatchOption o ⊥ (IsGraphOf limits kept g) → MatchOption o ⊥ (λ b. narrow_graph_of limits b ≡ Ok g) × (kept ≡ limits)
+graph_of-told : (o : Option (List ℕ)) (limits kept : Limits) (g : Graph) → MatchOption o ⊥ (IsGraphOf limits kept g) → MatchOption o ⊥ (λ b. graph_of limits b ≡ Ok g) × (kept ≡ limits)
 graph_of-told None limits kept g h = absurd h
 graph_of-told (Some b) limits kept g h = h
 
@@ -47,7 +49,7 @@ first-told : (limits kept : Limits) (g : Graph) (qs : List PatternGraph) (first 
 first-told limits kept g qs first is e = is ∙ ap (λ l. first_state l g qs) e
 
 pub WritesAll-from : (limits kept : Limits) (files : Option Files) (names : Names) (left p0 p1 : Option (List ℕ)) (g : Graph) (qs : List PatternGraph) (first : WatchState) → first ≡ first_state kept g qs
-    → HasFile files names.graph (IsGraphOf limits kept g) → HasFile files names.patterns (λ b. narrow_patterns_of limits b ≡ Ok qs)
+    → HasFile files names.graph (IsGraphOf limits kept g) → HasFile files names.patterns (λ b. patterns_of limits b ≡ Ok qs)
     → IfSome left (λ s. Appends p0 p1 (last_text first (said_by (lines limits.line_bytes s)))) → WritesAll limits files names left p0 p1
 WritesAll-from limits kept None names left p0 p1 g qs first is a b put = tt
 WritesAll-from limits kept (Some m) names None p0 p1 g qs first is a b put = tt
@@ -56,7 +58,7 @@ WritesAll-from limits kept (Some m) names (Some s) p0 p1 g qs first is a b put =
     rw (due-is limits m names s g qs t.0 b) (subst (Appends p0 p1) (text-is limits g qs first s (first-told limits kept g qs first is t.1)) put)
 
 pub WritesFront-from : (limits kept : Limits) (files : Option Files) (names : Names) (left p0 p1 : Option (List ℕ)) (g : Graph) (qs : List PatternGraph) (first : WatchState) → first ≡ first_state kept g qs
-    → HasFile files names.graph (IsGraphOf limits kept g) → HasFile files names.patterns (λ b. narrow_patterns_of limits b ≡ Ok qs)
+    → HasFile files names.graph (IsGraphOf limits kept g) → HasFile files names.patterns (λ b. patterns_of limits b ≡ Ok qs)
     → IfSome left (λ s. AppendsFront p0 p1 (last_text first (said_by (lines limits.line_bytes s)))) → WritesFront limits files names left p0 p1
 WritesFront-from limits kept None names left p0 p1 g qs first is a b front = tt
 WritesFront-from limits kept (Some m) names None p0 p1 g qs first is a b front = tt
@@ -86,10 +88,10 @@ is_ok-from : {T : Type 0} (r : Result T Bad) (x : T) → r ≡ Ok x → IsOk r
 is_ok-from r x e = rw e refl
 
 pub HasAccepted-from : (limits kept : Limits) (files : Option Files) (names : Names) (g : Graph) (qs : List PatternGraph)
-    → HasFile files names.graph (IsGraphOf limits kept g) → HasFile files names.patterns (λ b. narrow_patterns_of limits b ≡ Ok qs) → HasAccepted limits files names
+    → HasFile files names.graph (IsGraphOf limits kept g) → HasFile files names.patterns (λ b. patterns_of limits b ≡ Ok qs) → HasAccepted limits files names
 HasAccepted-from limits kept files names g qs a b = (
-  HasFile-map files names.graph (IsGraphOf limits kept g) (λ x. IsOk (narrow_graph_of limits x)) (λ x e. is_ok-from (narrow_graph_of limits x) g e.0) a,
-  HasFile-map files names.patterns (λ x. narrow_patterns_of limits x ≡ Ok qs) (λ x. IsOk (narrow_patterns_of limits x)) (λ x e. is_ok-from (narrow_patterns_of limits x) qs e) b,
+  HasFile-map files names.graph (IsGraphOf limits kept g) (λ x. IsOk (graph_of limits x)) (λ x e. is_ok-from (graph_of limits x) g e.0) a,
+  HasFile-map files names.patterns (λ x. patterns_of limits x ≡ Ok qs) (λ x. IsOk (patterns_of limits x)) (λ x e. is_ok-from (patterns_of limits x) qs e) b,
 )
 
 -- what was told at first is told later
@@ -98,44 +100,65 @@ HasFile-same files0 files1 name P e h = subst (λ (fs : Option Files). HasFile f
 
 -- ---- why the run halts
 
-is_err-from : {T : Type 0} (r : Result T Bad) (bad : Bad) → r ≡ Err bad → IsErr r
-is_err-from r bad e = rw e refl
-
 pub graph-halts : (limits : Limits) (files : Option Files) (names : Names) (left : Option (List ℕ)) (f0 f1 r0 r1 w0 w1 : ℕ) (s : Stop)
-    → FileStop f0 f1 (IsAbsent files names.graph) (IsLonger files names.graph limits.input_bytes) (λ bad. HasFile files names.graph (λ b. narrow_graph_of limits b ≡ Err bad)) s
+    → FileStop f0 f1 (IsAbsent files names.graph) (IsLonger files names.graph limits.input_bytes) (λ bad. HasFile files names.graph (λ b. graph_of limits b ≡ Err bad)) s
     → HaltsWhere limits files names left f0 f1 r0 r1 w0 w1 (halt_of halt.BadGraph s)
 graph-halts limits files names left f0 f1 r0 r1 w0 w1 stop.Memory h = tt
 graph-halts limits files names left f0 f1 r0 r1 w0 w1 stop.Read h = inl h
-graph-halts limits files names left f0 f1 r0 r1 w0 w1 stop.Write h = absurd h
 graph-halts limits files names left f0 f1 r0 r1 w0 w1 stop.NoFile h = inl h
 graph-halts limits files names left f0 f1 r0 r1 w0 w1 stop.TooMuch h = inl h
-graph-halts limits files names left f0 f1 r0 r1 w0 w1 (stop.Bad bad) h =
-    HasFile-map files names.graph (λ b. narrow_graph_of limits b ≡ Err bad) (λ b. IsErr (narrow_graph_of limits b)) (λ b e. is_err-from (narrow_graph_of limits b) bad e) h
+graph-halts limits files names left f0 f1 r0 r1 w0 w1 (stop.Bad bad) h = h
 
-patterns-halts : (limits : Limits) (files : Option Files) (names : Names) (left : Option (List ℕ)) (f0 f1 f2 r0 r1 w0 w1 : ℕ) (s : Stop) → f0 ≤ f1
-    → FileStop f1 f2 (IsAbsent files names.patterns) (IsLonger files names.patterns limits.input_bytes) (λ bad. HasFile files names.patterns (λ b. narrow_patterns_of limits b ≡ Err bad)) s
+good_graph : (limits kept : Limits) (files : Option Files) (names : Names) (g : Graph) → HasFile files names.graph (IsGraphOf limits kept g) → IsGoodGraph limits files names
+good_graph limits kept files names g a =
+    HasFile-map files names.graph (IsGraphOf limits kept g) (λ x. IsOk (graph_of limits x)) (λ x e. is_ok-from (graph_of limits x) g e.0) a
+
+patterns-halts-same : (limits : Limits) (files : Option Files) (names : Names) (left : Option (List ℕ)) (f0 f1 f2 r0 r1 w0 w1 : ℕ) (s : Stop) → IsGoodGraph limits files names → f0 ≤ f1
+    → FileStop f1 f2 (IsAbsent files names.patterns) (IsLonger files names.patterns limits.input_bytes) (λ bad. HasFile files names.patterns (λ b. patterns_of limits b ≡ Err bad)) s
     → HaltsWhere limits files names left f0 f2 r0 r1 w0 w1 (halt_of halt.BadPatterns s)
-patterns-halts limits files names left f0 f1 f2 r0 r1 w0 w1 stop.Memory le h = tt
-patterns-halts limits files names left f0 f1 f2 r0 r1 w0 w1 stop.Read le h = inl (omega arith)
-patterns-halts limits files names left f0 f1 f2 r0 r1 w0 w1 stop.Write le h = absurd h
-patterns-halts limits files names left f0 f1 f2 r0 r1 w0 w1 stop.NoFile le h = inr h
-patterns-halts limits files names left f0 f1 f2 r0 r1 w0 w1 stop.TooMuch le h = inr (inl h)
-patterns-halts limits files names left f0 f1 f2 r0 r1 w0 w1 (stop.Bad bad) le h =
-    HasFile-map files names.patterns (λ b. narrow_patterns_of limits b ≡ Err bad) (λ b. IsErr (narrow_patterns_of limits b)) (λ b e. is_err-from (narrow_patterns_of limits b) bad e) h
+patterns-halts-same limits files names left f0 f1 f2 r0 r1 w0 w1 stop.Memory good le h = tt
+patterns-halts-same limits files names left f0 f1 f2 r0 r1 w0 w1 stop.Read good le h = inl (omega arith)
+patterns-halts-same limits files names left f0 f1 f2 r0 r1 w0 w1 stop.NoFile good le h = inr h
+patterns-halts-same limits files names left f0 f1 f2 r0 r1 w0 w1 stop.TooMuch good le h = inr (inl h)
+patterns-halts-same limits files names left f0 f1 f2 r0 r1 w0 w1 (stop.Bad bad) good le h = (good, h)
 
-pub patterns-halts-later : (limits : Limits) (files files1 : Option Files) (names : Names) (left : Option (List ℕ)) (f0 f1 f2 r0 r1 w0 w1 : ℕ) (s : Stop) → f0 ≤ f1 → files1 ≡ files
-    → FileStop f1 f2 (IsAbsent files1 names.patterns) (IsLonger files1 names.patterns limits.input_bytes) (λ bad. HasFile files1 names.patterns (λ b. narrow_patterns_of limits b ≡ Err bad)) s
+pub patterns-halts : (limits kept : Limits) (files files1 : Option Files) (names : Names) (left : Option (List ℕ)) (f0 f1 f2 r0 r1 w0 w1 : ℕ) (s : Stop) (g : Graph)
+    → HasFile files names.graph (IsGraphOf limits kept g) → f0 ≤ f1 → files1 ≡ files
+    → FileStop f1 f2 (IsAbsent files1 names.patterns) (IsLonger files1 names.patterns limits.input_bytes) (λ bad. HasFile files1 names.patterns (λ b. patterns_of limits b ≡ Err bad)) s
     → HaltsWhere limits files names left f0 f2 r0 r1 w0 w1 (halt_of halt.BadPatterns s)
-patterns-halts-later limits files files1 names left f0 f1 f2 r0 r1 w0 w1 s le e h =
-    patterns-halts limits files names left f0 f1 f2 r0 r1 w0 w1 s le
-    (subst (λ (fs : Option Files). FileStop f1 f2 (IsAbsent fs names.patterns) (IsLonger fs names.patterns limits.input_bytes) (λ bad. HasFile fs names.patterns (λ b. narrow_patterns_of limits b ≡ Err bad)) s) e h)
+patterns-halts limits kept files files1 names left f0 f1 f2 r0 r1 w0 w1 s g a le e h =
+    patterns-halts-same limits files names left f0 f1 f2 r0 r1 w0 w1 s (good_graph limits kept files names g a) le
+    (subst (λ (fs : Option Files). FileStop f1 f2 (IsAbsent fs names.patterns) (IsLonger fs names.patterns limits.input_bytes) (λ bad. HasFile fs names.patterns (λ b. patterns_of limits b ≡ Err bad)) s) e h)
 
-pub updates-halts : (limits : Limits) (files : Option Files) (names : Names) (left : Option (List ℕ)) (f0 f1 r0 r1 w0 w1 : ℕ) (s : Stop)
-    → FollowStop r0 r1 w0 w1 (IfSome left (λ s. limits.input_bytes < length s)) s
-    → HaltsWhere limits files names left f0 f1 r0 r1 w0 w1 (halt_of halt.Memory s)
-updates-halts limits files names left f0 f1 r0 r1 w0 w1 stop.Memory h = tt
-updates-halts limits files names left f0 f1 r0 r1 w0 w1 stop.Read h = inr h
-updates-halts limits files names left f0 f1 r0 r1 w0 w1 stop.Write h = h
-updates-halts limits files names left f0 f1 r0 r1 w0 w1 stop.NoFile h = absurd h
-updates-halts limits files names left f0 f1 r0 r1 w0 w1 stop.TooMuch h = inr (inr h)
-updates-halts limits files names left f0 f1 r0 r1 w0 w1 (stop.Bad bad) h = absurd h
+pub updates-halts : (limits : Limits) (files : Option Files) (names : Names) (left : Option (List ℕ)) (f0 f1 r0 r1 w0 w1 : ℕ) (h : Halt)
+    → FollowHalts r0 r1 w0 w1 (IfSome left (λ s. limits.input_bytes < length s)) h → HaltsWhere limits files names left f0 f1 r0 r1 w0 w1 h
+updates-halts limits files names left f0 f1 r0 r1 w0 w1 halt.Memory e = tt
+updates-halts limits files names left f0 f1 r0 r1 w0 w1 halt.Read e = inr e
+updates-halts limits files names left f0 f1 r0 r1 w0 w1 halt.Write e = e
+updates-halts limits files names left f0 f1 r0 r1 w0 w1 halt.NoFile e = absurd e
+updates-halts limits files names left f0 f1 r0 r1 w0 w1 halt.TooMuch e = inr (inr e)
+updates-halts limits files names left f0 f1 r0 r1 w0 w1 (halt.BadGraph bad) e = absurd e
+updates-halts limits files names left f0 f1 r0 r1 w0 w1 (halt.BadPatterns bad) e = absurd e
+
+-- ---- the front of the text that stands when the updates have been followed
+
+pub WritesFront-either : (r : Result (Unit {0}) Halt) (limits kept : Limits) (files : Option Files) (names : Names) (left p0 p1 : Option (List ℕ)) (g : Graph) (qs : List PatternGraph) (first : WatchState) → first ≡ first_state kept g qs
+    → HasFile files names.graph (IsGraphOf limits kept g) → HasFile files names.patterns (λ b. patterns_of limits b ≡ Ok qs)
+    → OnOk r (IfSome left (λ s. Appends p0 p1 (last_text first (said_by (lines limits.line_bytes s)))))
+    → OnErr r (IfSome left (λ s. AppendsFront p0 p1 (last_text first (said_by (lines limits.line_bytes s))))) → WritesFront limits files names left p0 p1
+WritesFront-either (Ok _) limits kept files names left p0 p1 g qs first is a b put front =
+    WritesFront-all limits files names left p0 p1 (WritesAll-from limits kept files names left p0 p1 g qs first is a b put)
+WritesFront-either (Err _) limits kept files names left p0 p1 g qs first is a b put front = WritesFront-from limits kept files names left p0 p1 g qs first is a b front
+
+-- ---- a refused file is not among the ends of a run whose files are accepted
+
+pub never-bad_graph : (o : Option Names) (names : Names) (limits : Limits) (files : Option Files) (left : Option (List ℕ)) (f0 f1 r0 r1 w0 w1 : ℕ) (h : Halt) (bad : Bad) (Ends : Names → Type 0)
+    → o ≡ Some names → h ≡ halt.BadGraph bad → HaltsWhere limits files names left f0 f1 r0 r1 w0 w1 h → IfSome o (λ n. ¬ OneAbsent files n → ((b : Bad) → ¬ IsBadGraph limits files n b) → Ends n)
+never-bad_graph o names limits files left f0 f1 r0 r1 w0 w1 h bad Ends e is at_halt =
+    rw e (λ there good. absurd (good bad (subst (λ (x : Halt). HaltsWhere limits files names left f0 f1 r0 r1 w0 w1 x) is at_halt)))
+
+pub never-bad_patterns : (o : Option Names) (names : Names) (limits : Limits) (files : Option Files) (left : Option (List ℕ)) (f0 f1 r0 r1 w0 w1 : ℕ) (h : Halt) (bad : Bad) (Ends : Names → Type 0)
+    → o ≡ Some names → h ≡ halt.BadPatterns bad → HaltsWhere limits files names left f0 f1 r0 r1 w0 w1 h
+    → IfSome o (λ n. ¬ OneAbsent files n → ((b : Bad) → ¬ IsBadGraph limits files n b) → ((b : Bad) → ¬ IsBadPatterns limits files n b) → Ends n)
+never-bad_patterns o names limits files left f0 f1 r0 r1 w0 w1 h bad Ends e is at_halt =
+    rw e (λ there good_graph good_patterns. absurd (good_patterns bad (subst (λ (x : Halt). HaltsWhere limits files names left f0 f1 r0 r1 w0 w1 x) is at_halt)))

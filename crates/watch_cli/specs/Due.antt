@@ -3,10 +3,12 @@ use Rattle.std.specs.Prelude.{ℕ, List, [], map, Option, None, Some, Result, Ok
 use Rattle.std.specs.Io.KnownBytes.{Appends}
 use Rattle.flux_outside.specs.Told.{Files, AppendsFront}
 use Rattle.flux_model.specs.Lines.{lines}
+use Rattle.flux_model.specs.Reading.{update_reading}
+use Rattle.flux_model.specs.GraphFile.{graph_of}
+use Rattle.flux_model.specs.PatternFile.{patterns_of}
 use Rattle.flux_model.specs.Graph.{Graph}
 use Rattle.flux_model.specs.Pattern.{PatternGraph}
 use Rattle.flux_model.specs.Report.{watch_text}
-use Rattle.watch_cli.specs.Narrow.{narrow_graph_of, narrow_patterns_of, narrow_update_reading}
 use Rattle.flux_model.specs.declared.code.Bad.{Bad}
 use Rattle.flux_model.specs.declared.limits.Limits.{Limits}
 use Rattle.watch_cli.specs.Files.{HasFile}
@@ -14,7 +16,7 @@ use Rattle.watch_cli.specs.Words.{Names}
 
 -- what `watch` writes for a graph, patterns and the bytes of the updates
 abbrev pub text_for : Limits → Graph → List PatternGraph → List ℕ → List ℕ
-text_for limits g patterns s = watch_text limits g patterns (map narrow_update_reading (lines limits.line_bytes s))
+text_for limits g patterns s = watch_text limits g patterns (map update_reading (lines limits.line_bytes s))
 
 -- what `watch` writes for the files of these names and the updates, where both files are there and accepted
 abbrev pub due_text : Limits → Files → Names → List ℕ → Option (List ℕ)
@@ -26,7 +28,7 @@ due_text limits files names s = for_files (files names.graph) (files names.patte
     for_accepted (Err _) _ = None
 
     for_files : Option (List ℕ) → Option (List ℕ) → Option (List ℕ)
-    for_files (Some graph) (Some patterns) = for_accepted (narrow_graph_of limits graph) (narrow_patterns_of limits patterns)
+    for_files (Some graph) (Some patterns) = for_accepted (graph_of limits graph) (patterns_of limits patterns)
     for_files (Some _) None = None
     for_files None _ = None
 
@@ -43,4 +45,4 @@ WritesFront limits files names left old new =
 -- both files are there and accepted
 abbrev pub HasAccepted : Limits → Option Files → Names → Type 0
 HasAccepted limits files names =
-    HasFile files names.graph (λ bytes. IsOk (narrow_graph_of limits bytes)) × HasFile files names.patterns (λ bytes. IsOk (narrow_patterns_of limits bytes))
+    HasFile files names.graph (λ bytes. IsOk (graph_of limits bytes)) × HasFile files names.patterns (λ bytes. IsOk (patterns_of limits bytes))

@@ -10,4 +10,3 @@ pub mod Stops
 pub mod Halts
 pub mod Progress
 pub mod Taking
-pub mod Narrow

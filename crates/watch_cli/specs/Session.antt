@@ -1,7 +1,7 @@
 -- What is kept between the lines of the updates.
 use Rattle.std.specs.Prelude.{ℕ, ◌+◌, Bool, List, [], ◌∷◌, ◌++◌, map, if◌then◌else◌}
 use Rattle.flux_model.specs.Lines.{InputLine}
-use Rattle.watch_cli.specs.Narrow.{narrow_update_reading}
+use Rattle.flux_model.specs.Reading.{update_reading}
 use Rattle.flux_model.specs.Graph.{Graph}
 use Rattle.flux_model.specs.Pattern.{PatternGraph}
 use Rattle.flux_model.specs.Report.{Outcome, outcome, graph_after, is_accepted, is_refused, block, blocks, end_line}
@@ -24,7 +24,7 @@ first_state limits g patterns = record { limits = limits; graph = g; patterns = 
 
 -- what the lines say
 abbrev pub said_by : List InputLine → List (Said Update)
-said_by lines = map narrow_update_reading lines
+said_by lines = map update_reading lines
 
 -- one more, where it is so
 abbrev pub counted : Bool → ℕ → ℕ

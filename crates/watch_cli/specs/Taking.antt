@@ -1,36 +1,29 @@
 -- What a line of a file makes of what is kept of the file.
 use Rattle.std.specs.Prelude.{ℕ, Bool, true, false, Result, Ok}
 use Rattle.flux_model.specs.Lines.{InputLine}
+use Rattle.flux_model.specs.Reading.{graph_reading, pattern_reading}
 use Rattle.flux_model.specs.FileReading.{result_and_then}
 use Rattle.flux_model.specs.Graph.{LimitedGraph}
 use Rattle.flux_model.specs.GraphFile.{graph_after_line}
-use Rattle.watch_cli.specs.Narrow.{narrow_graph_reading, narrow_pattern_reading, one_pattern_after_line}
+use Rattle.flux_model.specs.PatternFile.{patterns_after_line}
 use Rattle.flux_model.specs.declared.code.Code.{Code}
 use Rattle.flux_model.specs.declared.code.Code.TheVariants as code
 use Rattle.flux_model.specs.declared.code.Bad.{Bad}
 use Rattle.flux_model.specs.declared.graph.Update.{Update}
 use Rattle.flux_model.specs.declared.graph.Update.TheVariants.{AddEdge}
-use Rattle.flux_model.specs.declared.pattern.PatternPart.{PatternPart}
-use Rattle.flux_model.specs.declared.pattern.PatternPart.TheVariants as part
 use Rattle.pattern_check.specs.Reading.{PatternReading}
 
 -- a graph stays under its limits
 abbrev pub after_graph_line : ℕ → LimitedGraph → InputLine → Result LimitedGraph Bad
 after_graph_line k kept line =
-    result_and_then (λ g. Ok (record kept { graph = g })) (graph_after_line kept.limits k kept.graph (narrow_graph_reading line))
+    result_and_then (λ g. Ok (record kept { graph = g })) (graph_after_line kept.limits k kept.graph (graph_reading line))
 
 -- a reader of patterns that has accepted the line can take the next
 abbrev pub after_pattern_line : ℕ → PatternReading → InputLine → Result PatternReading Bad
 after_pattern_line k reading line =
-    result_and_then (λ draft. Ok (record reading { draft = draft; spent = false })) (one_pattern_after_line reading.limits k reading.draft (narrow_pattern_reading line))
+    result_and_then (λ draft. Ok (record reading { draft = draft; spent = false })) (patterns_after_line reading.limits k reading.draft (pattern_reading line))
 
 -- the refusal of an edge that is there already
 abbrev pub is_repeat : Update → Code → Bool
 is_repeat (AddEdge t) code.Exists = true
 is_repeat _ _ = false
-
--- whether the part is a name
-abbrev pub is_name : PatternPart → Bool
-is_name (part.Name _ _) = true
-is_name (part.Vertex _ _) = false
-is_name (part.Edge _ _ _) = false

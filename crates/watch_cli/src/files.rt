@@ -27,7 +27,7 @@ fn take_line<T: TakeLine>(
     ensures ready { OnOk result (T.is_spent file.new ≡ false) }
     ensures stop { IfErr result (LinesStop (T.after_line number file.old (seen_line line.now))) }
 {
-    match file.take(alloc, number, line) {
+    match file.accept(alloc, number, line) {
         Ok(Ok(())) => Ok(()),
         Ok(Err(bad)) => Err(Stop::Bad(bad)),
         Err(_) => Err(Stop::Memory),

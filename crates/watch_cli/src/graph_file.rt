@@ -3,9 +3,9 @@ ghost use Rattle.std.specs.Prelude.{◌≡◌, ℕ, Bool, false, Result, Ok, Err
 ghost use Rattle.flux_model.specs.Seen.{seen_line};
 ghost use Rattle.watch_cli.specs.Taking.{is_repeat, after_graph_line};
 
-use crate::narrow::read_graph_line;
 use crate::take::TakeLine;
 use flux_model::{Bad, Code, Line, Said, Update};
+use line_grammar::read_graph_line;
 use plain_match::PlainGraph;
 use std::alloc::{AllocError, Global};
 
@@ -14,7 +14,7 @@ impl TakeLine for PlainGraph {
 
     ghost is_spent = { λ _. false };
 
-    fn take(
+    fn accept(
         &mut self,
         alloc: Global,
         number: u64,

@@ -3,6 +3,7 @@ ghost use Rattle.std.specs.Prelude.{◌≡◌};
 ghost use Rattle.watch_cli.specs.Halts.{halt_of};
 
 use crate::stop::Stop;
+use flux_model::Bad;
 
 /// Why a run with words of a shape ends before it is done.
 #[derive(Clone, Copy, Debug, PartialEq, Eq)]
@@ -17,22 +18,38 @@ pub enum Halt {
     NoFile,
     /// An input has more bytes than the limit.
     TooMuch,
-    /// The graph file is refused.
-    BadGraph,
-    /// The pattern file is refused.
-    BadPatterns,
+    /// The graph file is refused first so.
+    BadGraph(Bad),
+    /// The pattern file is refused first so.
+    BadPatterns(Bad),
 }
 
-/// Why the run ends where a step stopped, if `bad` is what a refused line ends it with.
-pub fn halt_of(stop: Stop, bad: Halt) -> Halt
-    ensures { result ≡ halt_of bad stop }
-{
-    match stop {
-        Stop::Memory => Halt::Memory,
-        Stop::Read => Halt::Read,
-        Stop::Write => Halt::Write,
-        Stop::NoFile => Halt::NoFile,
-        Stop::TooMuch => Halt::TooMuch,
-        Stop::Bad(_) => bad,
+impl Halt {
+    ghost use Rattle.watch_cli.specs.declared.halt.Halt.TheVariants as halt;
+
+    /// Why the run ends where the reading of the graph file stopped.
+    pub fn of_graph(stop: Stop) -> Halt
+        ensures { result ≡ halt_of halt.BadGraph stop }
+    {
+        match stop {
+            Stop::Memory => Halt::Memory,
+            Stop::Read => Halt::Read,
+            Stop::NoFile => Halt::NoFile,
+            Stop::TooMuch => Halt::TooMuch,
+            Stop::Bad(bad) => Halt::BadGraph(bad),
+        }
+    }
+
+    /// Why the run ends where the reading of the pattern file stopped.
+    pub fn of_patterns(stop: Stop) -> Halt
+        ensures { result ≡ halt_of halt.BadPatterns stop }
+    {
+        match stop {
+            Stop::Memory => Halt::Memory,
+            Stop::Read => Halt::Read,
+            Stop::NoFile => Halt::NoFile,
+            Stop::TooMuch => Halt::TooMuch,
+            Stop::Bad(bad) => Halt::BadPatterns(bad),
+        }
     }
 }

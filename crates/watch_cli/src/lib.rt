@@ -6,7 +6,6 @@ mod files;
 mod graph_file;
 mod halt;
 mod inputs;
-mod narrow;
 mod pattern_file;
 mod piece;
 mod report;

@@ -1,7 +1,7 @@
 //! The updates, one line at a time.
 ghost use Rattle.std.specs.Prelude.{◌≡◌, ◌≤◌, ◌<◌, ◌+◌, ◌^◌, ◌++◌, OnOk, OnErr, IfOk};
 ghost use Rattle.flux_model.specs.Seen.{seen_line};
-ghost use Rattle.watch_cli.specs.Narrow.{narrow_update_reading};
+ghost use Rattle.flux_model.specs.Reading.{update_reading};
 ghost use Rattle.flux_model.specs.Report.{outcome, graph_after, block_of, block};
 ghost use Rattle.flux_model.specs.Grown.{GrewByFront};
 ghost use Rattle.flux_model.specs.declared.said.Said.TheVariants.{Says};
@@ -9,9 +9,9 @@ ghost use Rattle.watch_cli.specs.Session.{first_state, after_said, next_block, e
 ghost use Rattle.watch_cli.specs.Answer.{answer_of};
 
 use crate::embeddings::{all_embeddings, changes};
-use crate::narrow::read_update_line;
 use delta_report::{write_deltas, write_end, write_refusal};
 use flux_model::{Line, Patterns, Said, Update};
+use line_grammar::read_update_line;
 use plain_match::PlainGraph;
 use std::alloc::{AllocError, Global};
 use std::marker::Model;
@@ -74,9 +74,9 @@ impl Session {
         report: &mut Vec<u8>,
     ) -> Result<(), AllocError>
         requires { self.old.lines < 2 ^ 60 }
-        ensures after { OnOk result (self.new ≡ after_said self.old (narrow_update_reading (seen_line line.now))) }
-        ensures ok { OnOk result (report.new.items ≡ report.old.items ++ next_block self.old (narrow_update_reading (seen_line line.now))) }
-        ensures err { OnErr result (GrewByFront report.old.items report.new.items (next_block self.old (narrow_update_reading (seen_line line.now)))) }
+        ensures after { OnOk result (self.new ≡ after_said self.old (update_reading (seen_line line.now))) }
+        ensures ok { OnOk result (report.new.items ≡ report.old.items ++ next_block self.old (update_reading (seen_line line.now))) }
+        ensures err { OnErr result (GrewByFront report.old.items report.new.items (next_block self.old (update_reading (seen_line line.now)))) }
     {
         let said = read_update_line(alloc, line)?;
         let number = self.lines + 1;

@@ -1,18 +1,16 @@
-//! Why a run stops before its end.
+//! Why the reading of a file stops before its end.
 ghost use Rattle.std.specs.Prelude.{◌≡◌};
 
 use flux_model::Bad;
 use std::alloc::AllocError;
 
-/// Why a step of the run stops it.
+/// Why the reading of a file stops before its end.
 #[derive(Clone, Copy, Debug, PartialEq, Eq)]
 pub enum Stop {
     /// Memory was refused.
     Memory,
     /// A read failed.
     Read,
-    /// A put failed.
-    Write,
     /// The file is not there.
     NoFile,
     /// The input has more bytes than the limit.

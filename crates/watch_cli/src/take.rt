@@ -16,7 +16,7 @@ pub trait TakeLine {
     ghost is_spent: { Self → Bool };
 
     /// Takes a line. A refused line, and want of memory, may spend the value.
-    fn take(
+    fn accept(
         &mut self,
         alloc: Global,
         number: u64,

@@ -4,18 +4,19 @@ ghost use Rattle.std.specs.Io.KnownBytes.{Appends, IsAtEnd};
 ghost use Rattle.flux_outside.specs.Causes.{Rose};
 ghost use Rattle.flux_outside.specs.Told.{AppendsFront};
 ghost use Rattle.flux_model.specs.Limits.{IsFair};
+ghost use Rattle.flux_model.specs.declared.code.Bad.{Bad};
 ghost use Rattle.watch_cli.specs.Words.{watched, texts};
 ghost use Rattle.watch_cli.specs.Status.{status_text, IfBadGraph, IfBadPatterns};
 ghost use Rattle.watch_cli.specs.Due.{WritesAll, WritesFront, HasAccepted};
 ghost use Rattle.watch_cli.specs.Halts.{HaltsWhere, OneAbsent, OneLonger, IsBadGraph, IsBadPatterns};
 
-use crate::halt::{Halt, halt_of};
+use crate::halt::Halt;
 use crate::inputs::{read_graph, read_patterns};
 use crate::session::Session;
 use crate::status::Status;
 use crate::updates::follow;
 use crate::words::names_of;
-use flux_model::{Code, Ledger, Limits, Steps};
+use flux_model::{Bad, Ledger, Limits, Steps};
 use flux_outside::{Shelf, Sink, Source};
 use std::alloc::Global;
 
@@ -55,18 +56,14 @@ fn work<F: Shelf, S: Source, W: Sink>(
 {
     let graph = match read_graph(alloc, limits, shelf, graph_name) {
         Ok(graph) => graph,
-        Err(stop) => return Err(halt_of(stop, Halt::BadGraph)),
+        Err(stop) => return Err(Halt::of_graph(stop)),
     };
     let patterns = match read_patterns(alloc, limits, shelf, patterns_name) {
         Ok(patterns) => patterns,
-        Err(stop) => return Err(halt_of(stop, Halt::BadPatterns)),
+        Err(stop) => return Err(Halt::of_patterns(stop)),
     };
     let mut session = Session::new(graph, patterns);
-    match follow(alloc, limits, &mut session, updates, out) {
-        Ok(()) => Ok(()),
-        // No line of the updates ends the run.
-        Err(stop) => Err(halt_of(stop, Halt::Memory)),
-    }
+    follow(alloc, limits, &mut session, updates, out)
 }
 
 // The status. It is a function of its own, so that no fact is lost where the cases join.
@@ -81,8 +78,8 @@ fn judge<F: Shelf, S: Source, W: Sink>(
     requires { IsFair limits.now }
     ensures usage { (result ≡ Status.Usage) ↔ (watched (texts words.now) ≡ None) }
     ensures no_file { result ≡ Status.NoFile → IfSome (watched (texts words.now)) (OneAbsent (F.files shelf.old)) }
-    ensures bad_graph { IfBadGraph result (IfSome (watched (texts words.now)) (λ names. IsBadGraph limits.now (F.files shelf.old) names.graph)) }
-    ensures bad_patterns { IfBadPatterns result (IfSome (watched (texts words.now)) (λ names. IsBadPatterns limits.now (F.files shelf.old) names.patterns)) }
+    ensures bad_graph { IfBadGraph result (λ bad. IfSome (watched (texts words.now)) (λ names. IsBadGraph limits.now (F.files shelf.old) names bad)) }
+    ensures bad_patterns { IfBadPatterns result (λ bad. IfSome (watched (texts words.now)) (λ names. IsBadPatterns limits.now (F.files shelf.old) names bad)) }
     ensures too_much { result ≡ Status.TooMuch → IfSome (watched (texts words.now)) (λ names.
         OneLonger (F.files shelf.old) names (S.left updates.old) limits.now.input_bytes) }
     ensures read_fault { result ≡ Status.ReadFault
@@ -95,7 +92,7 @@ fn judge<F: Shelf, S: Source, W: Sink>(
     ensures front { MatchOption (watched (texts words.now)) (Appends (W.taken out.old) (W.taken out.new) []) (λ names.
         WritesFront limits.now (F.files shelf.old) names (S.left updates.old) (W.taken out.old) (W.taken out.new)) }
     ensures complete { IfSome (watched (texts words.now)) (λ names. ¬ OneAbsent (F.files shelf.old) names
-        → ¬ IsBadGraph limits.now (F.files shelf.old) names.graph → ¬ IsBadPatterns limits.now (F.files shelf.old) names.patterns
+        → ((bad : Bad) → ¬ IsBadGraph limits.now (F.files shelf.old) names bad) → ((bad : Bad) → ¬ IsBadPatterns limits.now (F.files shelf.old) names bad)
         → ¬ OneLonger (F.files shelf.old) names (S.left updates.old) limits.now.input_bytes
         → ¬ Rose (F.faults shelf.old) (F.faults shelf.new) → ¬ Rose (S.faults updates.old) (S.faults updates.new)
         → ¬ Rose (W.faults out.old) (W.faults out.new) → (result ≡ Status.Done) ⊎ (result ≡ Status.Memory)) }
@@ -118,14 +115,8 @@ fn judge<F: Shelf, S: Source, W: Sink>(
         Err(Halt::Write) => Status::WriteFault,
         Err(Halt::NoFile) => Status::NoFile,
         Err(Halt::TooMuch) => Status::TooMuch,
-        Err(Halt::BadGraph) => Status::BadGraph {
-            line: 0,
-            code: Code::Word,
-        },
-        Err(Halt::BadPatterns) => Status::BadPatterns {
-            line: 0,
-            code: Code::Word,
-        },
+        Err(Halt::BadGraph(Bad { line, code })) => Status::BadGraph { line, code },
+        Err(Halt::BadPatterns(Bad { line, code })) => Status::BadPatterns { line, code },
     }
 }
 
@@ -158,8 +149,8 @@ pub fn run<F: Shelf, S: Source, W: Sink, E: Sink, L: Ledger>(
     requires { IsFair limits.now }
     ensures usage { (result.status ≡ Status.Usage) ↔ (watched (texts words.now) ≡ None) }
     ensures no_file { result.status ≡ Status.NoFile → IfSome (watched (texts words.now)) (OneAbsent (F.files shelf.old)) }
-    ensures bad_graph { IfBadGraph result.status (IfSome (watched (texts words.now)) (λ names. IsBadGraph limits.now (F.files shelf.old) names.graph)) }
-    ensures bad_patterns { IfBadPatterns result.status (IfSome (watched (texts words.now)) (λ names. IsBadPatterns limits.now (F.files shelf.old) names.patterns)) }
+    ensures bad_graph { IfBadGraph result.status (λ bad. IfSome (watched (texts words.now)) (λ names. IsBadGraph limits.now (F.files shelf.old) names bad)) }
+    ensures bad_patterns { IfBadPatterns result.status (λ bad. IfSome (watched (texts words.now)) (λ names. IsBadPatterns limits.now (F.files shelf.old) names bad)) }
     ensures too_much { result.status ≡ Status.TooMuch → IfSome (watched (texts words.now)) (λ names.
         OneLonger (F.files shelf.old) names (S.left updates.old) limits.now.input_bytes) }
     ensures read_fault { result.status ≡ Status.ReadFault
@@ -172,7 +163,7 @@ pub fn run<F: Shelf, S: Source, W: Sink, E: Sink, L: Ledger>(
     ensures front { MatchOption (watched (texts words.now)) (Appends (W.taken out.old) (W.taken out.new) []) (λ names.
         WritesFront limits.now (F.files shelf.old) names (S.left updates.old) (W.taken out.old) (W.taken out.new)) }
     ensures complete { IfSome (watched (texts words.now)) (λ names. ¬ OneAbsent (F.files shelf.old) names
-        → ¬ IsBadGraph limits.now (F.files shelf.old) names.graph → ¬ IsBadPatterns limits.now (F.files shelf.old) names.patterns
+        → ((bad : Bad) → ¬ IsBadGraph limits.now (F.files shelf.old) names bad) → ((bad : Bad) → ¬ IsBadPatterns limits.now (F.files shelf.old) names bad)
         → ¬ OneLonger (F.files shelf.old) names (S.left updates.old) limits.now.input_bytes
         → ¬ Rose (F.faults shelf.old) (F.faults shelf.new) → ¬ Rose (S.faults updates.old) (S.faults updates.new)
         → ¬ Rose (W.faults out.old) (W.faults out.new) → (result.status ≡ Status.Done) ⊎ (result.status ≡ Status.Memory)) }

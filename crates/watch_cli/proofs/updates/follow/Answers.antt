@@ -2,7 +2,7 @@ use Rattle.std.proofs.Common.{◌≡◌, ◌+◌, ◌≤◌, length, arith}
 use Rattle.std.proofs.lemmas.Result.{err_from_is_err_and, on_ok_weaker, on_err_weaker, IfErr-weaker}
 use Rattle.std.proofs.lemmas.Grind.{common_steps}
 use Rattle.stream_lines.specs.Lent.{one_line}
-use Rattle.watch_cli.proofs.ReportLemmas.{Followed-start, Followed-next, Followed-front, Followed-stops, Followed-end, Followed-end_short, Followed-longer, FollowStop-write, Consumes-none, lines_fit, some_lines_fit}
+use Rattle.watch_cli.proofs.ReportLemmas.{Followed-start, Followed-next, Followed-front, Followed-stops, Followed-end, Followed-end_short, Followed-longer, FollowHalts-write, Consumes-none, lines_fit, some_lines_fit}
 use Rattle.watch_cli.proofs.updates.follow.Goals as goal
 
 pub loop-count-init : goal.loop-count-init
@@ -21,8 +21,8 @@ returns-in_default-read-clause-err g c = Followed-front _ _ _ _ _ _ _ _ _ c.loop
 pub returns-then-count-room-clause-err : goal.returns-then-count-room-clause-err
 returns-then-count-room-clause-err g c = Followed-front _ _ _ _ _ _ _ _ _ c.loop-count.invariant.followed
 
-pub returns-then-count-room-clause-stop : goal.returns-then-count-room-clause-stop
-returns-then-count-room-clause-stop g c =
+pub returns-then-count-room-clause-halt : goal.returns-then-count-room-clause-halt
+returns-then-count-room-clause-halt g c =
     Followed-longer _ _ c.in-Ok-read.count c.args.limits.now.input_bytes _ _ _ _ _ _ _ _ _ c.loop-count.invariant.followed c.in-Ok-read.ensures.bytes.0 c.in-Ok-read.ensures.bound.1
     (omega (arith, c.if-count-room.true, c.loop-count.invariant.within))
 
@@ -51,10 +51,10 @@ returns-in_err-report_waiting-clause-err g c =
     let p = err_from_is_err_and c.from_residual.result c.from_residual.ensures.1 in
     rw p.1 (Followed-stops _ _ _ _ _ _ _ _ _ _ _ _ _ c.loop-count.invariant.followed c.in-Ok-read.ensures.bytes.0 c.in-Ok-push.ensures.lines c.in_err-report_waiting.ensures.err)
 
-pub returns-in_err-report_waiting-clause-stop : goal.returns-in_err-report_waiting-clause-stop
-returns-in_err-report_waiting-clause-stop g c =
+pub returns-in_err-report_waiting-clause-halt : goal.returns-in_err-report_waiting-clause-halt
+returns-in_err-report_waiting-clause-halt g c =
     let p = err_from_is_err_and c.from_residual.result c.from_residual.ensures.1 in
-    rw (p.1, p.2) (FollowStop-write _ _ _ _ _ _ _ c.loop-count.invariant.later c.in_err-report_waiting.ensures.stop)
+    rw (p.1, p.2) (FollowHalts-write _ _ _ _ _ _ _ c.loop-count.invariant.later c.in_err-report_waiting.ensures.halt)
 
 pub report_end-requires-clause-fits : goal.report_end-requires-clause-fits
 report_end-requires-clause-fits g c =
@@ -77,6 +77,6 @@ returns-clause-err g c =
     (c.in-Ok-read.ensures.bytes.1 zero (grind (arith, common_steps))) c.last.ensures.lines front)
     c.report_end.ensures.err
 
-pub returns-clause-stop : goal.returns-clause-stop
-returns-clause-stop g c =
-    IfErr-weaker c.report_end.result _ _ (λ s stopped. FollowStop-write _ _ _ _ _ _ s c.loop-count.invariant.later stopped) c.report_end.ensures.stop
+pub returns-clause-halt : goal.returns-clause-halt
+returns-clause-halt g c =
+    IfErr-weaker c.report_end.result _ _ (λ s stopped. FollowHalts-write _ _ _ _ _ _ s c.loop-count.invariant.later stopped) c.report_end.ensures.halt

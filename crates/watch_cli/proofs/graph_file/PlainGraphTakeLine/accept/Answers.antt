@@ -2,7 +2,7 @@ use Rattle.std.proofs.Common.{◌≡◌, ◌∙◌, sym, subst}
 use Rattle.flux_model.specs.Seen.{seen_line}
 use Rattle.flux_model.specs.Graph.{IsGraph, LimitedGraph}
 use Rattle.watch_cli.proofs.GraphFileLemmas.{line-changes, line-repeats, line-refused}
-use Rattle.watch_cli.proofs.graph_file.PlainGraphTakeLine.take.Goals as goal
+use Rattle.watch_cli.proofs.graph_file.PlainGraphTakeLine.accept.Goals as goal
 
 pub returns-in-Ok-clause-taken : goal.returns-in-Ok-clause-taken
 returns-in-Ok-clause-taken c =
