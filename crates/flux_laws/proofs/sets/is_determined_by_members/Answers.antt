@@ -1,0 +1,11 @@
+use Rattle.std.specs.Cmp.Lexicographic.{nat_list_cmp_total}
+use Rattle.flux_model.specs.Text.{text_cmp}
+use Rattle.flux_model.specs.Graph.{triple_cmp}
+use Rattle.flux_laws.proofs.SetsLemmas.{determined, same_text, triple_total, same_triple}
+use Rattle.flux_laws.proofs.sets.is_determined_by_members.Goals as goal
+
+pub returns : goal.returns
+returns c = record {
+  texts = determined text_cmp nat_list_cmp_total same_text;
+  triples = determined triple_cmp triple_total same_triple;
+}

@@ -1,0 +1,10 @@
+pub mod ChangesLaws
+pub mod EmbeddingsLaws
+pub mod FilesLaws
+pub mod GraphsLaws
+pub mod LinesLaws
+pub mod PatternsLaws
+pub mod ReportsLaws
+pub mod SetsLaws
+pub mod VerticesLaws
+pub mod WordsLaws

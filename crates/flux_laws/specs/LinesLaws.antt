@@ -1,0 +1,28 @@
+-- What holds of the lines of an input.
+use Rattle.std.specs.Prelude.{◌≡◌, ℕ, ◌==◌, not, Bool, List, [], ◌∷◌, ◌++◌, flat_map, IsTrue}
+use Rattle.std.specs.List.{list_any, list_all}
+use Rattle.flux_model.specs.Lines.{parts, all_but_last, open_end}
+
+-- whether the bytes have no byte 10
+abbrev pub has_no_end : List ℕ → Bool
+has_no_end bytes = not (list_any (λ x. x == 10) bytes)
+
+-- the lines, each with its byte 10
+abbrev pub ended_text : List (List ℕ) → List ℕ
+ended_text ended = flat_map (λ line. line ++ 10 ∷ []) ended
+
+-- the ended lines and the open end give the bytes back
+abbrev pub LinesGiveBack : Type 0
+LinesGiveBack = (bytes : List ℕ) → ended_text (all_but_last (parts bytes)) ++ open_end bytes ≡ bytes
+
+-- neither a line nor the open end has a byte 10
+abbrev pub NoLineHasAnEnd : Type 0
+NoLineHasAnEnd =
+    (bytes : List ℕ) → IsTrue (list_all has_no_end (all_but_last (parts bytes))) × IsTrue (has_no_end (open_end bytes))
+
+-- lines and an open end that have no byte 10 are found in the bytes that they make
+abbrev pub CutIsUnique : Type 0
+CutIsUnique =
+    (ended : List (List ℕ)) (end : List ℕ) → IsTrue (list_all has_no_end ended) → IsTrue (has_no_end end) →
+    let bytes = ended_text ended ++ end in
+    (all_but_last (parts bytes) ≡ ended) × (open_end bytes ≡ end)

@@ -1,0 +1,23 @@
+//! Laws that the definitions keep, each proved as the contract of a function that does nothing.
+//!
+//! A reader who wants to know whether a definition means what its name says finds here what follows from it:
+//!
+//! - `lines` and `words`: how an input is cut, and read back.
+//! - `sets`: ascending lists as sets.
+//! - `graphs`: what a change keeps, and how one change undoes another.
+//! - `files` and `patterns`: what an accepted file makes.
+//! - `embeddings`: which lists of ids are embeddings of a pattern in a graph, and how they stand.
+//! - `changes` and `vertices`: what an accepted update makes a pattern gain and lose.
+//! - `reports`: how the report of updates that come in two parts is put together.
+#![tactic(auto)]
+
+pub mod changes;
+pub mod embeddings;
+pub mod files;
+pub mod graphs;
+pub mod lines;
+pub mod patterns;
+pub mod reports;
+pub mod sets;
+pub mod vertices;
+pub mod words;
