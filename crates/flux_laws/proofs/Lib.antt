@@ -4,6 +4,8 @@ pub mod ConnectedLemmas
 pub mod EmbeddingsLemmas
 pub mod ExactLemmas
 pub mod FilesLemmas
+pub mod FormsLemmas
+pub mod FrontLemmas
 pub mod GraphsLemmas
 pub mod LimitLemmas
 pub mod LinesLemmas
@@ -14,10 +16,12 @@ pub mod MemberLemmas
 pub mod NameSetLemmas
 pub mod OneMoreLemmas
 pub mod PatternsLemmas
+pub mod PlainLemmas
 pub mod ReadingLemmas
 pub mod ReportsLemmas
 pub mod SetsLemmas
 pub mod TestLemmas
+pub mod TextsLemmas
 pub mod TouchedLemmas
 pub mod UndoLemmas
 pub mod VerticesLemmas

@@ -1,5 +1,5 @@
 -- A graph with one vertex or triple more, or fewer, is a graph.
-use Rattle.std.proofs.Common.{◌≡◌, ℕ, Bool, true, false, not, ◌||◌, ◌==◌, nat_le, nat_lt, List, [], ◌∷◌, length, Ok, Err, refl, sym, ◌∙◌, ap}
+use Rattle.std.proofs.Common.{◌≡◌, ℕ, Bool, true, false, not, ◌||◌, ◌==◌, nat_le, nat_lt, List, [], ◌∷◌, length, Ok, refl, sym, ◌∙◌, ap}
 use borrow.Author.Tests.{eqb-true}
 use Rattle.std.specs.Ordering.{nat_cmp, is_eq}
 use Rattle.std.specs.Cmp.{IsTotalOrder, nat_cmp_total, on_total, nat_eq_equiv, unsigned_ties}
@@ -9,7 +9,6 @@ use Rattle.std.proofs.lemmas.Cmp.{then_total}
 use Rattle.flux_model.specs.Text.{IsText}
 use Rattle.flux_model.specs.Ordered.{is_in}
 use Rattle.flux_model.specs.Graph.{Graph, IsVertex, IsGraph, vertex_cmp, triple_cmp, has_vertex, has_both_ends, has_triple, has_incident_triple, with_vertex, with_triple, without_vertex, without_triple, name_count, add_edge}
-use Rattle.flux_model.specs.declared.code.Code.TheVariants as code
 use Rattle.flux_model.specs.declared.graph.Vertex.{Vertex}
 use Rattle.flux_model.specs.declared.graph.Triple.{Triple}
 use Rattle.flux_model.specs.declared.limits.Limits.{Limits}
@@ -56,9 +55,6 @@ with_triple_graph g t h text ends = record {
 }
 
 -- what `add_edge` gives where both ends are there and the triple is not
-pub add_edge_full : (limits : Limits) (g : Graph) (t : Triple) → has_both_ends g t ≡ true → has_triple g t ≡ false → (nat_le limits.edges (length g.triples) || nat_lt limits.labels (name_count g (t.label ∷ []))) ≡ true → add_edge limits g t ≡ Err code.Full
-add_edge_full limits g t ends absent full = rw (ends, absent, full) refl
-
 pub add_edge_ok : (limits : Limits) (g : Graph) (t : Triple) → has_both_ends g t ≡ true → has_triple g t ≡ false → (nat_le limits.edges (length g.triples) || nat_lt limits.labels (name_count g (t.label ∷ []))) ≡ false → add_edge limits g t ≡ Ok (with_triple g t)
 add_edge_ok limits g t ends absent full = rw (ends, absent, full) refl
 

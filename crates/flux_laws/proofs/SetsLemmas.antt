@@ -177,7 +177,7 @@ or_move true false c = refl
 or_move false true c = refl
 or_move false false c = refl
 
-in_put_all : (x : List ℕ) (set names : List (List ℕ)) → is_in text_cmp x (put_all set names) ≡ (is_in text_cmp x names || is_in text_cmp x set)
+pub in_put_all : (x : List ℕ) (set names : List (List ℕ)) → is_in text_cmp x (put_all set names) ≡ (is_in text_cmp x names || is_in text_cmp x set)
 in_put_all x set [] = refl
 in_put_all x set (name ∷ names) =
     in_put_all x (put text_cmp name set) names

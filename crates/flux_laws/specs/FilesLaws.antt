@@ -1,4 +1,4 @@
--- Laws of the files that a run reads.
+-- Laws of graph files.
 use Rattle.std.specs.Prelude.{◌≡◌, ℕ, List, Ok}
 use Rattle.flux_model.specs.Graph.{Graph, IsGraph, IsWithin}
 use Rattle.flux_model.specs.GraphFile.{graph_of}

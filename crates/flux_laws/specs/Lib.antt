@@ -6,5 +6,6 @@ pub mod LinesLaws
 pub mod PatternsLaws
 pub mod ReportsLaws
 pub mod SetsLaws
+pub mod TextsLaws
 pub mod VerticesLaws
 pub mod WordsLaws

@@ -1,4 +1,4 @@
-//! Laws of the files that a run reads.
+//! Laws of graph files.
 ghost use Rattle.flux_laws.specs.FilesLaws.{GraphFileKeepsLimits, GraphFileMakesGraph};
 
 /// The graph of an accepted graph file is a graph, whatever the bytes of the file.

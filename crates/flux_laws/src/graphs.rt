@@ -1,8 +1,8 @@
 //! Laws of graphs and their changes.
 ghost use Rattle.flux_laws.specs.GraphsLaws.{ChangeIsExact, ChangeKeepsGraph, ChangeKeepsLimits, RefusalRepeats, RemovalUndoesEdge, RemovalUndoesVertex, InsertionUndoesEdge, InsertionUndoesVertex};
 
-/// An accepted change of a graph by a vertex whose id has 32 bits and whose labels are a set of texts, or by an edge whose
-/// label is a text, makes a graph.
+/// An accepted change of a graph makes a graph, where a vertex that it adds has an id of 32 bits and a label set, and an
+/// edge that it adds has a text for a label.
 pub fn change_keeps_graph()
     ensures { ChangeKeepsGraph }
 {}

@@ -8,6 +8,7 @@
 //! - `files` and `patterns`: what an accepted file makes.
 //! - `embeddings`: which lists of ids are embeddings of a pattern in a graph, and how they stand.
 //! - `changes` and `vertices`: what an accepted update makes a pattern gain and lose.
+//! - `texts`: the text of a graph makes the graph again.
 //! - `reports`: how the report of updates that come in two parts is put together.
 #![tactic(auto)]
 
@@ -19,5 +20,6 @@ pub mod lines;
 pub mod patterns;
 pub mod reports;
 pub mod sets;
+pub mod texts;
 pub mod vertices;
 pub mod words;
