@@ -1,5 +1,5 @@
 -- Ascending lists, and what holds of each or some element, when one is put in and when some are filtered out.
-use Rattle.std.proofs.Common.{◌≡◌, ◌≤◌, Bool, true, false, ◌||◌, ◌&&◌, List, [], ◌∷◌, ◌++◌, length, refl, sym, ◌∙◌, ap, arith}
+use Rattle.std.proofs.Common.{◌≡◌, ◌≤◌, Bool, true, false, ◌||◌, List, [], ◌∷◌, ◌++◌, length, refl, sym, ◌∙◌, ap, arith}
 use Rattle.std.specs.declared.cmp.Ordering.{Ordering}
 use Rattle.std.specs.declared.cmp.Ordering.TheVariants.{Less, Equal, Greater}
 use Rattle.std.specs.Ordering.{is_eq, is_lt, ordering_reverse}
@@ -8,25 +8,8 @@ use Rattle.std.specs.List.{filter, list_any, list_all, AllByRecursion}
 use Rattle.std.proofs.lemmas.List.Folds.{list_all-append}
 use Rattle.flux_model.specs.Ordered.{put, is_ascending, is_in}
 use Rattle.flux_model.proofs.OrderedLemmas.{in-less, in-greater}
-
-pub both : (b c : Bool) → b && c ≡ true → (b ≡ true) × (c ≡ true)
-both true c h = (refl, h)
-both false c h = (h, cc)
-
-pub neither : (b c : Bool) → b || c ≡ false → (b ≡ false) × (c ≡ false)
-neither true c h = (h, cc)
-neither false c h = (refl, h)
-
-pub later : (b c : Bool) → c ≡ true → b || c ≡ true
-later true c h = refl
-later false c h = h
-
--- a weaker test passes as well
-pub list_all-weaker : {K : Type 0} (p q : K → Bool) → ((x : K) → p x ≡ true → q x ≡ true) → (xs : List K) → list_all p xs ≡ true → list_all q xs ≡ true
-list_all-weaker p q f [] a = refl
-list_all-weaker p q f (x ∷ xs) a =
-    let two = both (p x) (list_all p xs) a in
-    rw (f x two.0) (list_all-weaker p q f xs two.1)
+use Rattle.flux_laws.proofs.TestLemmas.{both, or_right}
+use Rattle.flux_laws.proofs.PlainLemmas.{list_all-weaker}
 
 -- ---- one more
 
@@ -36,7 +19,7 @@ put-list_any R p x [] a = cc
 put-list_any R p x (y ∷ ys) a = by (R x y) refl (p y) refl (put-list_any R p x ys)
   where
     by : (r : Ordering) → R x y ≡ r → (b : Bool) → p y ≡ b → (list_any p ys ≡ true → list_any p (put R x ys) ≡ true) → list_any p (put R x (y ∷ ys)) ≡ true
-    by Less e b q rest = rw e (later (p x) (p y || list_any p ys) a)
+    by Less e b q rest = rw e (or_right (p x) (p y || list_any p ys) a)
     by Equal e b q rest = rw e a
     by Greater e true q rest = rw (e, q) refl
     by Greater e false q rest = rw (e, q) (rest (rw q at a))
@@ -162,4 +145,4 @@ module _ {K : Type 0} (R : K → K → Ordering) (o : IsTotalOrder R) where
       by : (r : Ordering) → R y z ≡ r → is_in R x (put R y zs) ≡ true → is_in R x (put R y (z ∷ zs)) ≡ true
       by Less f rest = rw (f, e) refl
       by Equal f rest = rw (f, o.congr x y z e ∙ f) refl
-      by Greater f rest = rw f (later (is_eq (R x z)) (is_in R x (put R y zs)) rest)
+      by Greater f rest = rw f (or_right (is_eq (R x z)) (is_in R x (put R y zs)) rest)

@@ -24,7 +24,9 @@ use Rattle.flux_model.specs.declared.graph.Update.TheVariants.{AddVertex, DropVe
 use Rattle.flux_model.specs.declared.limits.Limits.{Limits}
 use Rattle.flux_model.proofs.OrderedLemmas.{put-ascending}
 use Rattle.flux_laws.specs.ChangesLaws.{IsInsertion, IsRemoval, GainedAreNew, LostAreOld, NoneGainedAndLost, GainedAscend, LostAscend, InsertionLosesNone, RemovalGainsNone, InsertionAddsGained, RemovalTakesLost}
-use Rattle.flux_laws.proofs.AscendingLemmas.{both, later, list_all-weaker, put-list_any, filter-ascending}
+use Rattle.flux_laws.proofs.AscendingLemmas.{put-list_any, filter-ascending}
+use Rattle.flux_laws.proofs.TestLemmas.{both, or_right}
+use Rattle.flux_laws.proofs.PlainLemmas.{list_all-weaker}
 use Rattle.flux_laws.proofs.WithinLemmas.{within-filter}
 use Rattle.flux_laws.proofs.OneMoreLemmas.{vertex_total}
 use Rattle.flux_laws.proofs.GraphsLemmas.{vertex_added, vertex_dropped, edge_added, edge_dropped}
@@ -51,7 +53,7 @@ stood p m (x ∷ xs) h = by (p x) refl (stood p m xs)
         early : (c : Bool) → same_map m x ≡ c → list_any (same_map m) (x ∷ xs) ≡ true
         early true f = rw f refl
         early false f = rw f (rest (rw (e, f) at h))
-    by false e rest = later (same_map m x) (list_any (same_map m) xs) (rest (rw e at h))
+    by false e rest = or_right (same_map m x) (list_any (same_map m) xs) (rest (rw e at h))
 
 -- those of the one graph that are none of the other
 only_there : (q : PatternGraph) (g h : Graph) (m : List ℕ) → Contains (without (embeddings q h) (embeddings q g)) m ↔ (IsEmbedding q h m × (IsEmbedding q g m → ⊥))

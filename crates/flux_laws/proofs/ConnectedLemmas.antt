@@ -17,7 +17,9 @@ use Rattle.flux_model.specs.Ordered.{is_ascending, is_in}
 use Rattle.flux_model.specs.Pattern.{HasEnds, vertex_count, is_next_to, reached}
 use Rattle.flux_model.specs.declared.pattern.PatternEdge.{PatternEdge}
 use Rattle.flux_laws.specs.PatternsLaws.{Joins, IsChain, ConnectedByChains}
-use Rattle.flux_laws.proofs.AscendingLemmas.{both, later, list_all-weaker, filter-list_all, filter-ascending, within-length, length-filter-le}
+use Rattle.flux_laws.proofs.AscendingLemmas.{filter-list_all, filter-ascending, within-length, length-filter-le}
+use Rattle.flux_laws.proofs.TestLemmas.{both, or_right}
+use Rattle.flux_laws.proofs.PlainLemmas.{list_all-weaker}
 use Rattle.flux_laws.proofs.UndoLemmas.{holds_there}
 use Rattle.flux_laws.proofs.WithinLemmas.{within-filter}
 
@@ -52,7 +54,7 @@ all_range p a (suc n) h = rw (h a (omega arith)) (all_range p (a + 1) n (λ u l.
 each_in : (xs : List ℕ) → list_all (λ x. is_in nat_cmp x xs) xs ≡ true
 each_in [] = refl
 each_in (x ∷ xs) =
-    rw (tied_itself nat_cmp_total x) (list_all-weaker (λ y. is_in nat_cmp y xs) (λ y. is_in nat_cmp y (x ∷ xs)) (λ y h. later (is_eq (nat_cmp y x)) (is_in nat_cmp y xs) h) xs (each_in xs))
+    rw (tied_itself nat_cmp_total x) (list_all-weaker (λ y. is_in nat_cmp y xs) (λ y. is_in nat_cmp y (x ∷ xs)) (λ y h. or_right (is_eq (nat_cmp y x)) (is_in nat_cmp y xs) h) xs (each_in xs))
 
 -- what a filter keeps of u
 in-filter : (p : ℕ → Bool) (u : ℕ) (xs : List ℕ) → is_in nat_cmp u (filter p xs) ≡ (p u && is_in nat_cmp u xs)
@@ -164,7 +166,7 @@ module _ (edges : List PatternEdge) (n : ℕ) where
 
   leads_on : (s : List ℕ) (v w : ℕ) (e : PatternEdge) → is_in nat_cmp v s ≡ true → Joins v w e → leads s w e ≡ true
   leads_on s v w e there (inl j) = rw (j.0, j.1, eqb-refl w, there) refl
-  leads_on s v w e there (inr j) = later (e.head == w && is_in nat_cmp e.tail s) (e.tail == w && is_in nat_cmp e.head s) (rw (j.0, j.1, eqb-refl w, there) refl)
+  leads_on s v w e there (inr j) = or_right (e.head == w && is_in nat_cmp e.tail s) (e.tail == w && is_in nat_cmp e.head s) (rw (j.0, j.1, eqb-refl w, there) refl)
 
   end_within : (v w : ℕ) (e : PatternEdge) → HasEnds n e → Joins v w e → w < n
   end_within v w e ends (inl j) = omega (arith, ends.1, j.1)
@@ -177,7 +179,7 @@ module _ (edges : List PatternEdge) (n : ℕ) where
       let e : PatternEdge = joined.1 in
       let has : HasEnds n e = subst (HasEnds n) joined.3 (All-from_recursion (HasEnds n) edges ends joined.0 e joined.2) in
       let next : is_next_to edges s w ≡ true = list_any_at (leads s w) edges joined.0 e joined.2 (ap (leads s w) joined.3 ∙ leads_on s v w e there joined.4) in
-      let close : near s w ≡ true = later (is_in nat_cmp w s) (is_next_to edges s w) next in
+      let close : near s w ≡ true = or_right (is_in nat_cmp w s) (is_next_to edges s w) next in
       let here : is_in nat_cmp w (wider s) ≡ true = in-filter (near s) w range ∙ rw (close, in_range n w (end_within v w e has joined.4)) refl in
       chain_in s fix ends w ws u (subst (λ (l : List ℕ). is_in nat_cmp w l ≡ true) fix here) chain.1
 

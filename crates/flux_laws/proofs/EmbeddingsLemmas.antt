@@ -19,7 +19,8 @@ use Rattle.flux_model.specs.Embedding.{is_embedding, fit_all, keeps_edges, keeps
 use Rattle.flux_model.specs.Change.{same_map}
 use Rattle.flux_model.specs.declared.graph.Vertex.{Vertex}
 use Rattle.flux_laws.specs.EmbeddingsLaws.{EmbeddingsAscend, EmbeddingsAreAll}
-use Rattle.flux_laws.proofs.AscendingLemmas.{both, later, below_all, below_rest, tail_ascending, less, append-ascending, filter-ascending}
+use Rattle.flux_laws.proofs.AscendingLemmas.{below_all, below_rest, tail_ascending, less, append-ascending, filter-ascending}
+use Rattle.flux_laws.proofs.TestLemmas.{both, or_right}
 
 abbrev pub map_cmp : List ℕ → List ℕ → Ordering
 map_cmp = slice_cmp nat_cmp
@@ -113,7 +114,7 @@ id_there labels i (v ∷ vs) h = by (v.id == i) refl (id_there labels i vs)
   where
     by : (b : Bool) → (v.id == i) ≡ b → (list_any (λ (w : Vertex). w.id == i && is_within labels w.labels) vs ≡ true → list_any (λ w. i == w) (map (λ (w : Vertex). w.id) vs) ≡ true) → list_any (λ w. i == w) (map (λ (w : Vertex). w.id) (v ∷ vs)) ≡ true
     by true e rest = rw (nat_eq_equiv.symm i v.id ∙ e) refl
-    by false e rest = later (i == v.id) (list_any (λ w. i == w) (map (λ (w : Vertex). w.id) vs)) (rest (rw e at h))
+    by false e rest = or_right (i == v.id) (list_any (λ w. i == w) (map (λ (w : Vertex). w.id) vs)) (rest (rw e at h))
 
 led : (i : ℕ) (m : List ℕ) (w : ℕ) (ms : List (List ℕ)) → (i == w) ≡ true → list_any (same_map m) ms ≡ true → list_any (same_map (i ∷ m)) (led_by w ms) ≡ true
 led i m w [] e h = cc
@@ -132,7 +133,7 @@ in_front i m ms (w ∷ ws) e h = list_any-append (same_map (i ∷ m)) (led_by w 
 
     by : (b : Bool) → (i == w) ≡ b → (list_any (λ k. i == k) ws ≡ true → list_any (same_map m) ms ≡ true → list_any (same_map (i ∷ m)) (flat_map (λ k. led_by k ms) ws) ≡ true) → first || list_any (same_map (i ∷ m)) (flat_map (λ k. led_by k ms) ws) ≡ true
     by true f rest = rw (led i m w ms f h) refl
-    by false f rest = later first (list_any (same_map (i ∷ m)) (flat_map (λ k. led_by k ms) ws)) (rest (rw f at e) h)
+    by false f rest = or_right first (list_any (same_map (i ∷ m)) (flat_map (λ k. led_by k ms) ws)) (rest (rw f at e) h)
 
 in_lists : (g : Graph) (ls : List (List (List ℕ))) (m : List ℕ) → pointwise (fits_labels g) ls m ≡ true → list_any (same_map m) (id_lists (ids g) (length ls)) ≡ true
 in_lists g [] [] h = refl

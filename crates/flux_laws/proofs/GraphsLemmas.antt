@@ -13,7 +13,8 @@ use Rattle.flux_model.specs.Text.{text_cmp}
 use Rattle.flux_model.specs.Ordered.{put, is_in}
 use Rattle.flux_model.specs.Report.{applied, graph_after, next_graph, block_of}
 use Rattle.flux_model.specs.declared.said.Said.TheVariants.{Says}
-use Rattle.flux_laws.proofs.AscendingLemmas.{both, in-put, filter-list_all}
+use Rattle.flux_laws.proofs.AscendingLemmas.{in-put, filter-list_all}
+use Rattle.flux_laws.proofs.TestLemmas.{both}
 use Rattle.flux_model.specs.Graph.{vertex_cmp, triple_cmp, names_of, drop_edge, drop_vertex, add_edge, Graph, IsGraph, IsWithin, apply, refuse, has_vertex, has_both_ends, has_triple, has_incident_triple, with_vertex, with_triple, without_vertex, without_triple, name_count}
 use Rattle.flux_model.specs.declared.code.Code.{Code}
 use Rattle.flux_model.specs.declared.code.Code.TheVariants as code

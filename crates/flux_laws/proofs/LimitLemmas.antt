@@ -14,7 +14,8 @@ use Rattle.flux_model.specs.declared.graph.Vertex.{Vertex}
 use Rattle.flux_model.specs.declared.graph.Triple.{Triple}
 use Rattle.flux_model.specs.declared.limits.Limits.{Limits}
 use Rattle.flux_model.proofs.OrderedLemmas.{put-list_all}
-use Rattle.flux_laws.proofs.AscendingLemmas.{both, neither, filter-list_all, length-filter-le}
+use Rattle.flux_laws.proofs.AscendingLemmas.{filter-list_all, length-filter-le}
+use Rattle.flux_laws.proofs.TestLemmas.{both, neither}
 use Rattle.flux_laws.proofs.NameSetLemmas.{length-label_set, is_within-refl}
 
 -- ---- the names of a graph

@@ -10,7 +10,8 @@ use Rattle.std.proofs.lemmas.Cmp.{tied_itself}
 use Rattle.std.proofs.lemmas.Map.Lookups.{CmpEqualImpliesEq}
 use Rattle.flux_model.specs.Ordered.{is_ascending, is_in, put}
 use Rattle.flux_model.proofs.OrderedLemmas.{in-equal}
-use Rattle.flux_laws.proofs.AscendingLemmas.{both, later, less, greater, below_rest, tail_ascending}
+use Rattle.flux_laws.proofs.AscendingLemmas.{less, greater, below_rest, tail_ascending}
+use Rattle.flux_laws.proofs.TestLemmas.{both, or_right}
 use Rattle.flux_laws.proofs.UndoLemmas.{others, others-absent, absent_above, put_first}
 
 module _ {X : Type 0} where
@@ -153,7 +154,7 @@ module _ {K : Type 0} (R : K → K → Ordering) (o : IsTotalOrder R) where
     where
       by : (x ≡ y) ⊎ Contains ys x → (Contains ys x → is_in R x ys ≡ true) → is_in R x (y ∷ ys) ≡ true
       by (inl q) rest = let tie : R x y ≡ Equal = ap (R x) (sym q) ∙ tied_itself o x in in-equal R x y ys tie
-      by (inr d) rest = later (is_eq (R x y)) (is_in R x ys) (rest d)
+      by (inr d) rest = or_right (is_eq (R x y)) (is_in R x ys) (rest d)
 
   -- an element that is taken out of an ascending list and put back
   pub member_back : (x : K) (xs : List K) → is_ascending R xs ≡ true → Contains xs x → put R x (others R o x xs) ≡ xs

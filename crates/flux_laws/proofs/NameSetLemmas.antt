@@ -10,7 +10,9 @@ use Rattle.flux_model.specs.Text.{text_cmp}
 use Rattle.flux_model.specs.Ordered.{is_ascending, is_in, put}
 use Rattle.flux_model.specs.Labels.{put_all, label_set, is_within}
 use Rattle.flux_model.proofs.OrderedLemmas.{put-ascending, put-list_all}
-use Rattle.flux_laws.proofs.AscendingLemmas.{both, later, list_all-weaker, put-list_any, in-put, within-length}
+use Rattle.flux_laws.proofs.AscendingLemmas.{put-list_any, in-put, within-length}
+use Rattle.flux_laws.proofs.TestLemmas.{both, or_right}
+use Rattle.flux_laws.proofs.PlainLemmas.{list_all-weaker}
 
 kept : (x : List ℕ) (set names : List (List ℕ)) → is_in text_cmp x set ≡ true → is_in text_cmp x (put_all set names) ≡ true
 kept x set [] h = h
@@ -46,4 +48,4 @@ length-label_set names others w =
 pub is_within-refl : (names : List (List ℕ)) → is_within names names ≡ true
 is_within-refl [] = refl
 is_within-refl (name ∷ names) =
-    rw (tied_itself nat_list_cmp_total name) (list_all-weaker (λ x. is_in text_cmp x names) (λ x. is_in text_cmp x (name ∷ names)) (λ x h. later (is_eq (text_cmp x name)) (is_in text_cmp x names) h) names (is_within-refl names))
+    rw (tied_itself nat_list_cmp_total name) (list_all-weaker (λ x. is_in text_cmp x names) (λ x. is_in text_cmp x (name ∷ names)) (λ x h. or_right (is_eq (text_cmp x name)) (is_in text_cmp x names) h) names (is_within-refl names))

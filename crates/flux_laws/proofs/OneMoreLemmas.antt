@@ -13,7 +13,9 @@ use Rattle.flux_model.specs.declared.graph.Vertex.{Vertex}
 use Rattle.flux_model.specs.declared.graph.Triple.{Triple}
 use Rattle.flux_model.specs.declared.limits.Limits.{Limits}
 use Rattle.flux_model.proofs.OrderedLemmas.{put-ascending, put-list_all, put-AllByRecursion}
-use Rattle.flux_laws.proofs.AscendingLemmas.{both, neither, list_all-weaker, put-list_any, filter-list_all, filter-AllByRecursion, filter-ascending}
+use Rattle.flux_laws.proofs.AscendingLemmas.{put-list_any, filter-list_all, filter-AllByRecursion, filter-ascending}
+use Rattle.flux_laws.proofs.TestLemmas.{both, neither}
+use Rattle.flux_laws.proofs.PlainLemmas.{list_all-weaker}
 
 pub vertex_total : IsTotalOrder vertex_cmp
 vertex_total = on_total (λ (v : Vertex). v.id) nat_cmp_total

@@ -26,7 +26,7 @@ use Rattle.flux_model.specs.declared.pattern.PatternPart.{PatternPart}
 use Rattle.flux_model.specs.declared.pattern.PatternPart.TheVariants as part
 use Rattle.flux_model.specs.declared.limits.Limits.{Limits}
 use Rattle.flux_laws.specs.PatternsLaws.{IsPatternWithin, PatternFileMakesPatterns, PatternFileNamesDiffer, PatternFileKeepsLimits}
-use Rattle.flux_laws.proofs.AscendingLemmas.{both, neither}
+use Rattle.flux_laws.proofs.TestLemmas.{both, neither}
 use Rattle.flux_laws.proofs.ReadingLemmas.{read_keeps, all-map, Saying, IsSoundPart, pattern_line}
 
 -- ---- lists

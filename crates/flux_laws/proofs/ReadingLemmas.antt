@@ -19,7 +19,7 @@ use Rattle.flux_model.specs.declared.said.Said.{Said}
 use Rattle.flux_model.specs.declared.said.Said.TheVariants.{Nothing, Says, Refused}
 use Rattle.flux_model.specs.declared.graph.Update.TheVariants.{AddVertex}
 use Rattle.flux_laws.specs.GraphsLaws.{IsSound}
-use Rattle.flux_laws.proofs.AscendingLemmas.{both}
+use Rattle.flux_laws.proofs.TestLemmas.{both}
 use Rattle.flux_laws.proofs.LimitLemmas.{length-put}
 use Rattle.flux_laws.proofs.NameSetLemmas.{put_all-list_all, put_all-ascending}
 

@@ -9,7 +9,8 @@ use Rattle.std.proofs.lemmas.Cmp.{tied_itself, tied_back}
 use Rattle.std.proofs.lemmas.Map.Lookups.{CmpEqualImpliesEq}
 use Rattle.flux_model.specs.Ordered.{put, is_ascending, is_in}
 use Rattle.flux_model.proofs.OrderedLemmas.{in-less, in-equal, in-greater, put-less}
-use Rattle.flux_laws.proofs.AscendingLemmas.{both, neither, less, tail_ascending, length-filter-le}
+use Rattle.flux_laws.proofs.AscendingLemmas.{less, tail_ascending, length-filter-le}
+use Rattle.flux_laws.proofs.TestLemmas.{both, neither}
 
 module _ {K : Type 0} (R : K → K → Ordering) (o : IsTotalOrder R) where
   -- the elements other than x

@@ -8,7 +8,9 @@ use Rattle.std.specs.List.{filter, list_all}
 use Rattle.std.proofs.lemmas.Map.Lookups.{CmpEqualImpliesEq}
 use Rattle.flux_model.specs.Ordered.{is_ascending, is_in}
 use Rattle.flux_model.proofs.OrderedLemmas.{in-less, in-equal, in-greater}
-use Rattle.flux_laws.proofs.AscendingLemmas.{both, below_all, below_rest, greater, less, tail_ascending, in_rest, list_all-weaker}
+use Rattle.flux_laws.proofs.AscendingLemmas.{below_all, below_rest, greater, less, tail_ascending, in_rest}
+use Rattle.flux_laws.proofs.TestLemmas.{both}
+use Rattle.flux_laws.proofs.PlainLemmas.{list_all-weaker}
 
 module _ {K : Type 0} (R : K → K → Ordering) (o : IsTotalOrder R) where
   none_of : (ys : List K) → filter (λ y. is_in R y []) ys ≡ []
