@@ -1,5 +1,5 @@
 -- What was written, and why a run halts.
-use Rattle.std.proofs.Common.{◌≡◌, ◌≤◌, ◌<◌, ℕ, List, [], length, Option, None, Some, Result, Ok, Err, IsOk, IsErr, IfSome, MatchOption, OnOk, OnErr, inl, inr, refl, ap, ◌∙◌, subst, arith}
+use Rattle.std.proofs.Common.{◌≡◌, ◌≤◌, ◌<◌, ℕ, List, [], length, Option, None, Some, Result, Ok, Err, IsOk, IfSome, MatchOption, OnOk, OnErr, inl, inr, refl, ap, ◌∙◌, subst, arith}
 use Rattle.std.specs.Io.KnownBytes.{Appends}
 use Rattle.std.proofs.KnownBytes.{Appends-nil}
 use Rattle.flux_outside.specs.Told.{Files, AppendsFront}

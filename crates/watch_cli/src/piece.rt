@@ -1,5 +1,5 @@
 //! The buffer that pieces of an input are read into.
-ghost use Rattle.std.specs.Prelude.{◌≡◌, ◌≤◌, ◌<◌, max, IfOk, vec_len};
+ghost use Rattle.std.specs.Prelude.{◌≡◌, ◌≤◌, ◌<◌, max, min, IfOk, vec_len};
 
 use std::alloc::{AllocError, Global};
 
@@ -19,6 +19,7 @@ pub fn ask_for(left: u64) -> usize
     ensures some { 0 < result }
     ensures fits { result ≤ PIECE }
     ensures within { result ≤ max left 1 }
+    ensures exact { result ≡ min (max left 1) PIECE }
 {
     left.clamp(1, PIECE) as usize
 }
