@@ -28,9 +28,9 @@ use Rattle.flux_laws.proofs.AscendingLemmas.{put-list_any, filter-ascending}
 use Rattle.flux_laws.proofs.TestLemmas.{both, or_right}
 use Rattle.flux_laws.proofs.PlainLemmas.{list_all-weaker}
 use Rattle.flux_laws.proofs.WithinLemmas.{within-filter}
-use Rattle.flux_laws.proofs.OneMoreLemmas.{vertex_total}
 use Rattle.flux_laws.proofs.GraphsLemmas.{vertex_added, vertex_dropped, edge_added, edge_dropped}
 use Rattle.flux_laws.proofs.EmbeddingsLemmas.{map_cmp, same_exact, passes, kept, found, embeds, embeddings-ascending}
+use Rattle.flux_laws.proofs.SetsLemmas.{vertex_total}
 
 -- ---- what is gained and what is lost
 

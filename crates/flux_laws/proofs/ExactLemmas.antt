@@ -17,11 +17,12 @@ use Rattle.flux_model.specs.declared.graph.Update.TheVariants.{AddVertex, DropVe
 use Rattle.flux_model.specs.declared.limits.Limits.{Limits}
 use Rattle.flux_laws.specs.GraphsLaws.{HasEdgeToo, HasOtherEdges, HasVertexToo, HasOtherVertices, ChangeIsExact, InsertionUndoesVertex}
 use Rattle.flux_laws.proofs.AscendingLemmas.{filter-list_all}
-use Rattle.flux_laws.proofs.OneMoreLemmas.{vertex_total, triple_total, in_ids}
+use Rattle.flux_laws.proofs.OneMoreLemmas.{in_ids}
 use Rattle.flux_laws.proofs.LimitLemmas.{among, name_count-within}
 use Rattle.flux_laws.proofs.UndoLemmas.{others, absent_after, fewer}
 use Rattle.flux_laws.proofs.MemberLemmas.{each_passes, was_in, still_in, in_or_put, put_in, is_found, member_back}
 use Rattle.flux_laws.proofs.GraphsLemmas.{okay, triple_exact, other_ids, vertex_added, vertex_dropped, edge_added, edge_dropped}
+use Rattle.flux_laws.proofs.SetsLemmas.{vertex_total, triple_total}
 
 -- ---- a test that leaves one thing out
 

@@ -23,9 +23,10 @@ use Rattle.flux_model.specs.declared.graph.Vertex.{Vertex}
 use Rattle.flux_model.specs.declared.graph.Update.TheVariants.{AddVertex, DropVertex, AddEdge, DropEdge}
 use Rattle.flux_model.specs.declared.limits.Limits.{Limits}
 use Rattle.flux_laws.specs.GraphsLaws.{ChangeKeepsGraph, ChangeKeepsLimits, RefusalRepeats, RemovalUndoesEdge, RemovalUndoesVertex, InsertionUndoesEdge}
-use Rattle.flux_laws.proofs.OneMoreLemmas.{add_edge_ok, vertex_total, triple_total, in_ids, with_vertex_graph, with_triple_graph, without_triple_graph, without_vertex_graph}
+use Rattle.flux_laws.proofs.OneMoreLemmas.{add_edge_ok, in_ids, with_vertex_graph, with_triple_graph, without_triple_graph, without_vertex_graph}
 use Rattle.flux_laws.proofs.LimitLemmas.{with_vertex_within, among, name_count-within, with_triple_within, without_vertex_within, without_triple_within}
 use Rattle.flux_laws.proofs.UndoLemmas.{others, put_out, absent_after, put_back, fewer, holds_there}
+use Rattle.flux_laws.proofs.SetsLemmas.{vertex_total, triple_total}
 
 abbrev pub okay : Graph → Result Graph Code
 okay g = Ok g

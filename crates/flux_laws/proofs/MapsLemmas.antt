@@ -18,9 +18,9 @@ use Rattle.flux_model.specs.declared.pattern.Mode.TheVariants.{Hom, Iso}
 use Rattle.flux_model.specs.declared.pattern.PatternEdge.{PatternEdge}
 use Rattle.flux_laws.specs.EmbeddingsLaws.{HasLabelled, MapsInto, EmbeddingsAreMaps}
 use Rattle.flux_laws.proofs.TestLemmas.{both}
-use Rattle.flux_laws.proofs.OneMoreLemmas.{triple_total}
 use Rattle.flux_laws.proofs.MemberLemmas.{each_passes, all_pass, is_there, is_found}
 use Rattle.flux_laws.proofs.GraphsLemmas.{triple_exact}
+use Rattle.flux_laws.proofs.SetsLemmas.{triple_total}
 
 -- ---- labels
 

@@ -2,10 +2,8 @@
 use Rattle.std.proofs.Common.{◌≡◌, ℕ, Bool, true, false, not, ◌||◌, ◌==◌, nat_le, nat_lt, List, [], ◌∷◌, length, Ok, refl, sym, ◌∙◌, ap}
 use borrow.Author.Tests.{eqb-true}
 use Rattle.std.specs.Ordering.{nat_cmp, is_eq}
-use Rattle.std.specs.Cmp.{IsTotalOrder, nat_cmp_total, on_total, nat_eq_equiv, unsigned_ties}
-use Rattle.std.specs.Cmp.Lexicographic.{nat_list_cmp_total}
+use Rattle.std.specs.Cmp.{nat_eq_equiv, unsigned_ties}
 use Rattle.std.specs.List.{filter, list_any, list_all}
-use Rattle.std.proofs.lemmas.Cmp.{then_total}
 use Rattle.flux_model.specs.Text.{IsText}
 use Rattle.flux_model.specs.Ordered.{is_in}
 use Rattle.flux_model.specs.Graph.{Graph, IsVertex, IsGraph, vertex_cmp, triple_cmp, has_vertex, has_both_ends, has_triple, has_incident_triple, with_vertex, with_triple, without_vertex, without_triple, name_count, add_edge}
@@ -16,12 +14,7 @@ use Rattle.flux_model.proofs.OrderedLemmas.{put-ascending, put-list_all, put-All
 use Rattle.flux_laws.proofs.AscendingLemmas.{put-list_any, filter-list_all, filter-AllByRecursion, filter-ascending}
 use Rattle.flux_laws.proofs.TestLemmas.{both, neither}
 use Rattle.flux_laws.proofs.PlainLemmas.{list_all-weaker}
-
-pub vertex_total : IsTotalOrder vertex_cmp
-vertex_total = on_total (λ (v : Vertex). v.id) nat_cmp_total
-
-pub triple_total : IsTotalOrder triple_cmp
-triple_total = then_total (on_total (λ (t : Triple). t.src) nat_cmp_total) (then_total (on_total (λ (t : Triple). t.label) nat_list_cmp_total) (on_total (λ (t : Triple). t.dst) nat_cmp_total))
+use Rattle.flux_laws.proofs.SetsLemmas.{vertex_total, triple_total}
 
 -- a vertex of this id is in the list
 pub in_ids : (v : Vertex) (vs : List Vertex) → is_in vertex_cmp v vs ≡ list_any (λ (w : Vertex). w.id == v.id) vs

@@ -34,7 +34,8 @@ use Rattle.flux_laws.proofs.TestLemmas.{both, either, or_right}
 use Rattle.flux_laws.proofs.PlainLemmas.{list_all-weaker, plain_lines}
 use Rattle.flux_laws.proofs.SetsLemmas.{vertex_total, triple_total, in_put_all, label_set_ascending, text_membership}
 use Rattle.flux_laws.proofs.FormsLemmas.{IsSmall, vertex_words, vertex_plain, vertex_says, triple_words, triple_plain, triple_says}
-use Rattle.flux_laws.proofs.FrontLemmas.{absent_in_front, put_behind, within-length}
+use Rattle.flux_laws.proofs.FrontLemmas.{absent_in_front, put_behind}
+use Rattle.flux_laws.proofs.AscendingLemmas.{within-length}
 
 -- ---- the lines of the text
 
