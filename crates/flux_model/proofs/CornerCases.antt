@@ -6,7 +6,8 @@ use Rattle.flux_model.specs.Reading.{update_reading, pattern_reading}
 use Rattle.flux_model.specs.Graph.{Graph, apply}
 use Rattle.flux_model.specs.Pattern.{PatternGraph}
 use Rattle.flux_model.specs.PatternFile.{patterns_of}
-use Rattle.flux_model.specs.Tree.{QueryTree, TreeLink, edge_cards, tree_for}
+use Rattle.flux_model.specs.Tree.{QueryTree, edge_cards, tree_for}
+use Rattle.flux_model.specs.declared.tree.TreeLink.{TreeLink}
 use Rattle.flux_model.specs.States.{joined, reaches, extends}
 use Rattle.flux_model.specs.declared.code.Code.TheVariants as code
 use Rattle.flux_model.specs.declared.said.Said.TheVariants.{Says, Refused}
@@ -72,11 +73,11 @@ abbrev under : ℕ → ℕ → Option TreeLink
 under parent edge = Some (record { parent = parent; edge = edge })
 
 -- of two ends with the same card the root is the lower, also where it is the head
-head_root : tree_for (record { name = codes "p"; mode = Hom; labels = no_labels; edges = wanted 1 0 ∷ [] }) (1 ∷ []) (2 ∷ 2 ∷ []) ≡ record { root = 0; links = None ∷ under 0 0 ∷ [] }
+head_root : tree_for (record { name = codes "p"; mode = Hom; labels = no_labels; edges = wanted 1 0 ∷ [] }) (1 ∷ []) (2 ∷ 2 ∷ []) ≡ record { root = 0; links = None ∷ under 0 0 ∷ []; edge_count = 1 }
 head_root = refl
 
 abbrev stem : QueryTree
-stem = record { root = 0; links = None ∷ under 0 0 ∷ [] }
+stem = record { root = 0; links = None ∷ under 0 0 ∷ []; edge_count = 1 }
 
 -- a vertex that is joined and does not fit is not reached
 abbrev labelled : PatternGraph
@@ -89,7 +90,7 @@ not_reached = refl
 abbrev fork : PatternGraph
 fork = record { name = codes "p"; mode = Hom; labels = [] ∷ (codes "A" ∷ []) ∷ [] ∷ []; edges = wanted 0 1 ∷ wanted 0 2 ∷ [] }
 
-each_child : extends (joined fork (record { root = 0; links = None ∷ under 0 0 ∷ under 0 1 ∷ [] }) two) 0 1 ≡ false
+each_child : extends (joined fork (record { root = 0; links = None ∷ under 0 0 ∷ under 0 1 ∷ []; edge_count = 2 }) two) 0 1 ≡ false
 each_child = refl
 
 -- and so does the vertex itself

@@ -5,3 +5,4 @@ pub mod Rows
 pub mod CornerCases
 pub mod FileReadingLemmas
 pub mod ReportLemmas
+pub mod TreeRows

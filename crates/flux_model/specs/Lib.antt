@@ -19,3 +19,7 @@ pub mod Deltas
 pub mod Grown
 pub mod Tree
 pub mod States
+pub mod Exact
+pub mod Order
+pub mod Costs
+pub mod Partial

@@ -7,6 +7,9 @@
 //! - `labels`: the labels of one vertex, as an ordered set.
 //! - `graph`: vertices, triples and the updates of a graph.
 //! - `pattern`: patterns, and what a line of a pattern file says.
+//! - `cards`: how often the edges and vertices of a pattern fit.
+//! - `tree`: how a pattern vertex hangs in a query tree.
+//! - `state`: how far a graph vertex can stand for a pattern vertex.
 //! - `maps`: maps of a pattern's vertices to ids, and what each pattern gained and lost by an update.
 //! - `partial`: ids for some of a pattern's vertices.
 //! - `line`, `said` and `code`: a line of an input, what it says, and why it is refused.
@@ -17,6 +20,7 @@
 //! Each call that takes memory answers `AllocError` where none is left, and then nothing has changed, unless it says otherwise.
 #![tactic(auto)]
 
+mod cards;
 mod code;
 mod graph;
 mod labels;
@@ -28,11 +32,14 @@ mod partial;
 mod pattern;
 mod said;
 mod sorting;
+mod state;
 mod steps;
 #[cfg(test)]
 mod tests;
 mod text;
+mod tree;
 
+pub use cards::Cards;
 pub use code::{Bad, Code};
 pub use graph::{Triple, Update, Vertex};
 pub use labels::Labels;
@@ -43,5 +50,7 @@ pub use ordered::place;
 pub use partial::Partial;
 pub use pattern::{Mode, Pattern, PatternEdge, PatternPart, Patterns};
 pub use said::Said;
+pub use state::State;
 pub use steps::{Ledger, Silent, Steps, Tally};
 pub use text::Text;
+pub use tree::TreeLink;

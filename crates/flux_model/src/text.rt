@@ -8,6 +8,7 @@ use smallvec::SmallVec;
 use std::alloc::{AllocError, Global};
 use std::cmp::Ordering;
 use std::default::MadeWith;
+use std::hash::{Hash, Hasher};
 use std::marker::Model;
 
 /// A label or a name: 1 to 64 bytes, each from 0x21 to 0x7E.
@@ -64,6 +65,20 @@ impl Ord for Text {
 
     fn cmp(&self, other: &Text) -> Ordering {
         self.bytes.as_slice().cmp(&other.bytes.as_slice())
+    }
+}
+
+impl Hash for Text {
+    ghost use Rattle.std.proofs.Common.{rules};
+    ghost use Rattle.std.specs.Hash as fed;
+    ghost use Rattle.std.specs.Cmp.Rules.{hashing};
+
+    ghost hash_input = { λ t. fed.slice fed.u8 t };
+
+    ghost respects_eq = { Prim.search (hashing, rules) };
+
+    fn hash<H: Hasher>(&self, state: &mut H) {
+        self.bytes.as_slice().hash(state);
     }
 }
 
