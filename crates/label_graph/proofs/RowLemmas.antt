@@ -1,0 +1,259 @@
+-- A row gives each triple of its vertex once.
+use Rattle.std.proofs.Common.{◌≡◌, ℕ, zero, suc, ◌<◌, true, Option, Some, None, List, [], ◌∷◌, ◌++◌, map, length, refl, sym, ap, ◌∙◌, subst, ⊎_elim, ◌⊎◌, inl, inr, arith, get_or}
+use Rattle.std.specs.Prelude.{◌==◌, IsPermutation, IsSome, IsTrue, count_by, slice_get, option_map, nat_eq, is_some}
+use Rattle.std.specs.List.{filter, list_any}
+use Rattle.std.specs.Map.{lookup, keys_of}
+use Rattle.std.specs.declared.cmp.Ordering.{Ordering}
+use Rattle.std.specs.Cmp.{IsTotalOrder}
+use Rattle.std.proofs.lemmas.Bool.{eqb-true, eq-eqb}
+use Rattle.std.proofs.lemmas.Option.{none-some, same_Some, some_pair_parts, slice_get_read, slice_get_within}
+use Rattle.std.proofs.lemmas.Map.Made.{is_some-lookup}
+use Rattle.std.proofs.lemmas.List.{length-map}
+use Rattle.std.proofs.lemmas.List.Sums.{length-filter}
+use Rattle.std.proofs.lemmas.List.Sorted.{IsPermutation-refl, IsPermutation-trans, IsPermutation-cons, IsPermutation-middle, IsPermutation-sym, length_permutation}
+use Rattle.flux_model.specs.Graph.{triple_cmp, has_vertex}
+use Rattle.flux_model.specs.declared.graph.Triple.{Triple}
+use Rattle.flux_model.specs.declared.graph.Vertex.{Vertex}
+use Rattle.label_graph.specs.declared.link.Link.{Link}
+use Rattle.label_graph.specs.declared.link.Turn.{Turn}
+use Rattle.label_graph.specs.declared.link.Places.{Places}
+use Rattle.label_graph.specs.declared.link.Node.{Node}
+use Rattle.label_graph.specs.declared.names.Name.{Name}
+use Rattle.label_graph.specs.Names.{slot, IsTable}
+use Rattle.label_graph.specs.Places.{AreInverse, ArePlaced, link_at, vertex_of, outs, outs_of, ins, ins_of, out_link, in_link, link_eq}
+use Rattle.label_graph.specs.Rows.{triples_from, triples_to}
+use Rattle.label_graph.specs.Sorted.{In, sorted}
+use Rattle.label_graph.specs.Store.{triple_of, kept_graph, row_from, IsNamed}
+use Rattle.label_graph.proofs.CountLemmas.{in_append, append_left, append_right}
+use Rattle.label_graph.proofs.NodeLemmas.{stands_out, stands_in}
+use Rattle.label_graph.proofs.PlaceLemmas.{link_same, link_refl, IsSome-mapped, option_map_some}
+use Rattle.label_graph.proofs.SortedLemmas.{in_any, any_in, mapped_in, in_mapped, in_filter, filter_in, in_sorted, sorted_in, sorted_ascending, filter_ascending, ascending_apart, IsApart}
+use Rattle.label_graph.proofs.StoreLemmas.{triple_total, triple_exact, triple_tells, known_label, has_vertex_of}
+
+-- ---- lists without repeats
+
+-- no element is there twice
+abbrev pub AreOnce : {X : Type 0} → List X → Type 0
+AreOnce [] = Unit {0}
+AreOnce (x ∷ xs) = (In xs x → ⊥) × AreOnce xs
+
+-- a list with an element, about that element
+split_at : {X : Type 0} (x : X) (ys : List X) → In ys x → (front : List X) × (tail : List X) × (ys ≡ front ++ x ∷ tail)
+split_at x [] i = absurd i
+split_at {X} x (y ∷ ys) (inl e) = ([], ys, (let P : X → Type 0 = λ z. y ∷ ys ≡ z ∷ ys in subst P (sym e) refl))
+split_at x (y ∷ ys) (inr i) = let r = split_at x ys i in (y ∷ r.0, r.1, ap (λ l. y ∷ l) r.2)
+
+middle_in : {X : Type 0} (front : List X) (x : X) (tail : List X) (z : X) → In (front ++ x ∷ tail) z → (z ≡ x) ⊎ In (front ++ tail) z
+middle_in front x tail z i = ⊎_elim (λ j. inr (append_left front tail z j)) (λ j. ⊎_elim (λ e. inl e) (λ k. inr (append_right front tail z k)) j) (in_append front (x ∷ tail) z i)
+
+in_middle : {X : Type 0} (front : List X) (x : X) (tail : List X) (z : X) → In (front ++ tail) z → In (front ++ x ∷ tail) z
+in_middle front x tail z i = ⊎_elim (λ j. append_left front (x ∷ tail) z j) (λ j. append_right front (x ∷ tail) z (inr j)) (in_append front tail z i)
+
+once_middle : {X : Type 0} (front : List X) (x : X) (tail : List X) → AreOnce (front ++ x ∷ tail) → (In (front ++ tail) x → ⊥) × AreOnce (front ++ tail)
+once_middle [] x tail h = h
+once_middle {X} (a ∷ front) x tail h =
+    let r = once_middle front x tail h.1 in
+    (λ i. ⊎_elim (λ e. h.0 (let P : X → Type 0 = λ z. In (front ++ x ∷ tail) z in subst P e (append_right front (x ∷ tail) x (inl refl)))) r.0 i, (λ i. h.0 (in_middle front x tail a i), r.1))
+
+-- lists with the same elements, each once
+pub once_permutation : {X : Type 0} (xs ys : List X) → AreOnce xs → AreOnce ys → ((z : X) → In xs z → In ys z) → ((z : X) → In ys z → In xs z) → IsPermutation xs ys
+once_permutation [] [] a b f g = IsPermutation-refl []
+once_permutation [] (y ∷ ys) a b f g = absurd (g y (inl refl))
+once_permutation {X} (x ∷ xs) ys a b f g =
+    let s = split_at x ys (f x (inl refl)) in
+    let P : List X → Type 0 = AreOnce in
+    let once = once_middle s.0 x s.1 (subst P s.2 b) in
+    let to : (z : X) → In xs z → In (s.0 ++ s.1) z = λ z i.
+    (let Q : List X → Type 0 = λ l. In l z in
+    let R : X → Type 0 = λ w. In xs w in
+    ⊎_elim (λ e. absurd (a.0 (subst R e i))) (λ j. j) (middle_in s.0 x s.1 z (subst Q s.2 (f z (inr i))))) in
+    let from : (z : X) → In (s.0 ++ s.1) z → In xs z = λ z i.
+    (let Q : List X → Type 0 = λ l. In l z in
+    let R : X → Type 0 = λ w. In (s.0 ++ s.1) w in
+    ⊎_elim (λ e. absurd (once.0 (subst R e i))) (λ j. j) (g z (subst Q (sym s.2) (in_middle s.0 x s.1 z i)))) in
+    let rest = once_permutation xs (s.0 ++ s.1) a.1 once.1 to from in
+    let whole = IsPermutation-trans (x ∷ xs) (x ∷ (s.0 ++ s.1)) (s.0 ++ x ∷ s.1) (IsPermutation-cons x xs (s.0 ++ s.1) rest)
+    (IsPermutation-sym (s.0 ++ x ∷ s.1) (x ∷ (s.0 ++ s.1)) (IsPermutation-middle s.0 x s.1)) in
+    let S : List X → Type 0 = λ l. IsPermutation (x ∷ xs) l in
+    subst S (sym s.2) whole
+
+pub place_of : {X : Type 0} (xs : List X) (x : X) → In xs x → (i : ℕ) × (slice_get xs i ≡ Some x)
+place_of [] x i = absurd i
+place_of (y ∷ ys) x (inl e) = (zero, ap Some (sym e))
+place_of (y ∷ ys) x (inr i) = let r = place_of ys x i in (suc r.0, r.1)
+
+-- a list whose elements tell their places
+pub once_by_place : {X : Type 0} (xs : List X) → ((i j : ℕ) (x : X) → slice_get xs i ≡ Some x → slice_get xs j ≡ Some x → i ≡ j) → AreOnce xs
+once_by_place [] h = tt
+once_by_place {X} (x ∷ xs) h = (
+  λ i. let p = place_of xs x i in let e : zero ≡ suc p.0 = h zero (suc p.0) x refl p.1 in absurd (omega arith),
+  once_by_place xs (λ i j y p q. let e : suc i ≡ suc j = h (suc i) (suc j) y p q in omega arith),
+)
+
+pub in_by_place : {X : Type 0} (xs : List X) (i : ℕ) (x : X) → slice_get xs i ≡ Some x → In xs x
+in_by_place [] i x e = absurd (none-some x e)
+in_by_place (y ∷ ys) zero x e = inl (sym (same_Some y x e))
+in_by_place (y ∷ ys) (suc i) x e = inr (in_by_place ys i x e)
+
+pub once_mapped : {X Y : Type 0} (f : X → Y) (xs : List X) → AreOnce xs → ((a b : X) → In xs a → In xs b → f a ≡ f b → a ≡ b) → AreOnce (map f xs)
+once_mapped f [] o h = tt
+once_mapped {X} f (x ∷ xs) o h = (
+  λ i. let r = mapped_in f xs (f x) i in let e : x ≡ r.0 = h x r.0 (inl refl) (inr r.1) r.2 in o.0 (let P : X → Type 0 = λ z. In xs z in subst P (sym e) r.1),
+  once_mapped f xs o.1 (λ a b i j e. h a b (inr i) (inr j) e),
+)
+
+pub once_apart : {X : Type 0} (R : X → X → Ordering) (o : IsTotalOrder R) (xs : List X) → IsApart R o xs → AreOnce xs
+once_apart R o [] a = tt
+once_apart R o (x ∷ xs) a = (a.0, once_apart R o xs a.1)
+
+-- ---- a side of the rows
+
+-- of the rows of one side: the link of a turn in the row of a vertex, and the end of a link and of a triple that the row belongs to
+pub record IsSide (link : ℕ → Turn → Link) (owner : Link → ℕ) (owner_of : Triple → ℕ) : Type 0 where
+  pub at : (v : ℕ) (t : Turn) → owner (link v t) ≡ v
+  pub label : (v : ℕ) (t : Turn) → (link v t).label ≡ t.label
+  pub turn : (v : ℕ) (s t : Turn) → link v s ≡ link v t → s ≡ t
+  pub triple : (names : List (Option Name)) (k : Link) → owner_of (triple_of names k) ≡ owner k
+
+turn_is : (a b c d : ℕ) → a ≡ c → b ≡ d → ◌≡◌ {A = Turn} (record { label = a; other = b }) (record { label = c; other = d })
+turn_is a b c d p q = cc
+
+out_side : IsSide out_link (λ (k : Link). k.src) (λ (t : Triple). t.src)
+out_side = record {
+  at = λ v t. refl;
+  label = λ v t. refl;
+  turn = λ v s t e. turn_is s.label s.other t.label t.other (ap (λ (k : Link). k.label) e) (ap (λ (k : Link). k.dst) e);
+  triple = λ names k. refl;
+}
+
+in_side : IsSide in_link (λ (k : Link). k.dst) (λ (t : Triple). t.dst)
+in_side = record {
+  at = λ v t. refl;
+  label = λ v t. refl;
+  turn = λ v s t e. turn_is s.label s.other t.label t.other (ap (λ (k : Link). k.label) e) (ap (λ (k : Link). k.src) e);
+  triple = λ names k. refl;
+}
+
+some_place : (o : Option Places) → is_some o ≡ true → (p : Places) × (o ≡ Some p)
+some_place None e = cc
+some_place (Some p) e = (p, refl)
+
+module _ (link : ℕ → Turn → Link) (owner : Link → ℕ) (owner_of : Triple → ℕ) (side : IsSide link owner owner_of) (number : Places → ℕ) (rows : ℕ → List Turn)
+    (places : List (Link × Places)) (h : AreInverse (link_at link rows) (λ k. option_map (λ (p : Places). (owner k, number p)) (lookup (link_eq k) places))) where
+  turns_once : (v : ℕ) → AreOnce (rows v)
+  turns_once v = once_by_place (rows v) (λ i j t p q.
+      let a = h.there (v, i) (link v t) (ap (option_map (link v)) p) in
+      let b = h.there (v, j) (link v t) (ap (option_map (link v)) q) in
+      let e : Some (v, i) ≡ Some (v, j) = sym a ∙ b in
+      let r : (v ≡ v) × (i ≡ j) = some_pair_parts v v i j e in r.1)
+
+  link_stands : (v i : ℕ) (t : Turn) → slice_get (rows v) i ≡ Some t → In (keys_of places) (link v t)
+  link_stands v i t e =
+      let place = h.there (v, i) (link v t) (ap (option_map (link v)) e) in
+      let some = IsSome-mapped (λ (p : Places). (owner (link v t), number p)) (lookup (link_eq (link v t)) places) (v, i) place in
+      let l = in_any (link_eq (link v t)) (keys_of places) (sym (is_some-lookup (link_eq (link v t)) places) ∙ some) in
+      let P : Link → Type 0 = λ z. In (keys_of places) z in
+      subst P (sym (link_same (link v t) l.0 l.2)) l.1
+
+  turn_stands : (k : Link) → In (keys_of places) k → (i : ℕ) × (t : Turn) × (slice_get (rows (owner k)) i ≡ Some t) × (link (owner k) t ≡ k)
+  turn_stands k i =
+      let has : list_any (link_eq k) (keys_of places) ≡ true = any_in (link_eq k) (keys_of places) k i (link_refl k) in
+      let p = some_place (lookup (link_eq k) places) (is_some-lookup (link_eq k) places ∙ has) in
+      let back = h.back k (owner k, number p.0) (ap (option_map (λ (p : Places). (owner k, number p))) p.1) in
+      let t = option_map_some (link (owner k)) (slice_get (rows (owner k)) (number p.0)) k back in
+      (number p.0, t.0, t.1, t.2)
+
+  module _ (names : List (Option Name)) (vertices : List Vertex) (n : IsNamed names vertices (keys_of places)) where
+    turn_known : (v i : ℕ) (t : Turn) → slice_get (rows v) i ≡ Some t → IsSome (slot names t.label)
+    turn_known v i t e =
+        let x = known_label names vertices (keys_of places) n (link v t) (link_stands v i t e) in
+        let P : ℕ → Type 0 = λ m. slot names m ≡ Some x.0 in
+        let s : slot names t.label ≡ Some x.0 = subst P (side.label v t) x.1 in rw s refl
+
+    turns_tell : IsTable names → (v : ℕ) (a b : Turn) → In (rows v) a → In (rows v) b → triple_of names (link v a) ≡ triple_of names (link v b) → a ≡ b
+    turns_tell tab v a b i j e =
+        let p = place_of (rows v) a i in
+        let q = place_of (rows v) b j in
+        let x = known_label names vertices (keys_of places) n (link v b) (link_stands v q.0 b q.1) in
+        side.turn v a b (triple_tells names vertices (keys_of places) n tab (link v a) (link v b) (link_stands v p.0 a p.1) x.0 x.1 e)
+
+    from_row : (v : ℕ) (z : Triple) → In (map (λ t. triple_of names (link v t)) (rows v)) z → In (filter (λ s. owner_of s == v) (sorted triple_cmp (map (triple_of names) (keys_of places)))) z
+    from_row v z i =
+        let t = mapped_in (λ t. triple_of names (link v t)) (rows v) z i in
+        let p = place_of (rows v) t.0 t.1 in
+        let P : Triple → Type 0 = λ w. In (filter (λ s. owner_of s == v) (sorted triple_cmp (map (triple_of names) (keys_of places)))) w in
+        subst P (sym t.2) (in_filter (λ s. owner_of s == v) (sorted triple_cmp (map (triple_of names) (keys_of places))) (triple_of names (link v t.0))
+        (in_sorted triple_cmp triple_total (map (triple_of names) (keys_of places)) (λ a b p q e. triple_exact a b e) (triple_of names (link v t.0))
+        (in_mapped (triple_of names) (keys_of places) (link v t.0) (link_stands v p.0 t.0 p.1)))
+        (eq-eqb (owner_of (triple_of names (link v t.0))) v (side.triple names (link v t.0) ∙ side.at v t.0)))
+
+    to_row : (v : ℕ) (z : Triple) → In (filter (λ s. owner_of s == v) (sorted triple_cmp (map (triple_of names) (keys_of places)))) z → In (map (λ t. triple_of names (link v t)) (rows v)) z
+    to_row v z i =
+        let f = filter_in (λ s. owner_of s == v) (sorted triple_cmp (map (triple_of names) (keys_of places))) z i in
+        let k = mapped_in (triple_of names) (keys_of places) z (sorted_in triple_cmp triple_total (map (triple_of names) (keys_of places)) z f.0) in
+        let own : owner k.0 ≡ v = sym (side.triple names k.0) ∙ (ap owner_of (sym k.2) ∙ eqb-true (owner_of z) v f.1) in
+        let t = turn_stands k.0 k.1 in
+        let P : ℕ → Type 0 = λ w. In (map (λ t. triple_of names (link w t)) (rows w)) z in
+        let Q : Triple → Type 0 = λ w. In (map (λ t. triple_of names (link (owner k.0) t)) (rows (owner k.0))) w in
+        subst P own (subst Q (ap (triple_of names) t.3 ∙ sym k.2)
+        (in_mapped (λ t. triple_of names (link (owner k.0) t)) (rows (owner k.0)) t.1 (in_by_place (rows (owner k.0)) t.0 t.1 t.2)))
+
+    -- a row has the triples of its vertex, each once
+    row_is : IsTable names → (v : ℕ) → IsPermutation (map (λ t. triple_of names (link v t)) (rows v)) (filter (λ s. owner_of s == v) (sorted triple_cmp (map (triple_of names) (keys_of places))))
+    row_is tab v = once_permutation (map (λ t. triple_of names (link v t)) (rows v)) (filter (λ s. owner_of s == v) (sorted triple_cmp (map (triple_of names) (keys_of places))))
+        (once_mapped (λ t. triple_of names (link v t)) (rows v) (turns_once v) (turns_tell tab v))
+        (once_apart triple_cmp triple_total (filter (λ s. owner_of s == v) (sorted triple_cmp (map (triple_of names) (keys_of places))))
+        (ascending_apart triple_cmp triple_total (filter (λ s. owner_of s == v) (sorted triple_cmp (map (triple_of names) (keys_of places))))
+        (filter_ascending triple_cmp triple_total (λ s. owner_of s == v) (sorted triple_cmp (map (triple_of names) (keys_of places)))
+        (sorted_ascending triple_cmp triple_total (map (triple_of names) (keys_of places))))))
+        (from_row v) (to_row v)
+
+    row_length : IsTable names → (v : ℕ) → length (rows v) ≡ count_by (λ s. owner_of s == v) (sorted triple_cmp (map (triple_of names) (keys_of places)))
+    row_length tab v =
+        sym (length-map (rows v) (λ t. triple_of names (link v t)))
+        ∙ (sym (length_permutation (map (λ t. triple_of names (link v t)) (rows v)) (filter (λ s. owner_of s == v) (sorted triple_cmp (map (triple_of names) (keys_of places)))) (row_is tab v))
+        ∙ length-filter (λ s. owner_of s == v) (sorted triple_cmp (map (triple_of names) (keys_of places))))
+
+-- ---- a turn that was read
+
+module _ (nodes : List (ℕ × Node)) (v : ℕ) (p : Node) (e : lookup (nat_eq v) nodes ≡ Some p) (row : List Turn) (i : ℕ) (t : Turn) (within : i < length row) (read : t ≡ get_or row i t) where
+  pub out_turn : row ≡ p.outs.items → slice_get (outs nodes v) i ≡ Some t
+  out_turn r = ap (λ (o : Option Node). slice_get (outs_of o) i) e ∙ (ap (λ (l : List Turn). slice_get l i) (sym r) ∙ slice_get_read row (length row) i t refl within read)
+
+  pub in_turn : row ≡ p.ins.items → slice_get (ins nodes v) i ≡ Some t
+  in_turn r = ap (λ (o : Option Node). slice_get (ins_of o) i) e ∙ (ap (λ (l : List Turn). slice_get l i) (sym r) ∙ slice_get_read row (length row) i t refl within read)
+
+-- ---- both sides of a store
+
+module _ (names : List (Option Name)) (nodes : List (ℕ × Node)) (places : List (Link × Places)) (h : ArePlaced nodes places)
+    (n : IsNamed names (map vertex_of nodes) (keys_of places)) where
+  pub out_row_is : IsTable names → (v : ℕ) → IsPermutation (row_from names (out_link v) (outs nodes v) 0) (triples_from (kept_graph names (map vertex_of nodes) (keys_of places)) v)
+  out_row_is = row_is out_link (λ (k : Link). k.src) (λ (t : Triple). t.src) out_side (λ (p : Places). p.out_at) (outs nodes) places h.outs names (map vertex_of nodes) n
+
+  pub in_row_is : IsTable names → (v : ℕ) → IsPermutation (row_from names (in_link v) (ins nodes v) 0) (triples_to (kept_graph names (map vertex_of nodes) (keys_of places)) v)
+  in_row_is = row_is in_link (λ (k : Link). k.dst) (λ (t : Triple). t.dst) in_side (λ (p : Places). p.in_at) (ins nodes) places h.ins names (map vertex_of nodes) n
+
+  pub out_degree_is : IsTable names → (v : ℕ) → length (outs nodes v) ≡ count_by (λ (t : Triple). t.src == v) (kept_graph names (map vertex_of nodes) (keys_of places)).triples
+  out_degree_is = row_length out_link (λ (k : Link). k.src) (λ (t : Triple). t.src) out_side (λ (p : Places). p.out_at) (outs nodes) places h.outs names (map vertex_of nodes) n
+
+  pub in_degree_is : IsTable names → (v : ℕ) → length (ins nodes v) ≡ count_by (λ (t : Triple). t.dst == v) (kept_graph names (map vertex_of nodes) (keys_of places)).triples
+  in_degree_is = row_length in_link (λ (k : Link). k.dst) (λ (t : Triple). t.dst) in_side (λ (p : Places). p.in_at) (ins nodes) places h.ins names (map vertex_of nodes) n
+
+  -- the label of a turn is a name, and its other end a vertex
+  pub out_known : (v i : ℕ) (t : Turn) → slice_get (outs nodes v) i ≡ Some t → IsSome (slot names t.label)
+  out_known = turn_known out_link (λ (k : Link). k.src) (λ (t : Triple). t.src) out_side (λ (p : Places). p.out_at) (outs nodes) places h.outs names (map vertex_of nodes) n
+
+  pub in_known : (v i : ℕ) (t : Turn) → slice_get (ins nodes v) i ≡ Some t → IsSome (slot names t.label)
+  in_known = turn_known in_link (λ (k : Link). k.dst) (λ (t : Triple). t.dst) in_side (λ (p : Places). p.in_at) (ins nodes) places h.ins names (map vertex_of nodes) n
+
+  pub out_end : (v i : ℕ) (t : Turn) → slice_get (outs nodes v) i ≡ Some t → IsTrue (has_vertex (kept_graph names (map vertex_of nodes) (keys_of places)) t.other)
+  out_end v i t e =
+      let k = link_stands out_link (λ (k : Link). k.src) (λ (t : Triple). t.src) out_side (λ (p : Places). p.out_at) (outs nodes) places h.outs v i t e in
+      let s = turn_stands in_link (λ (k : Link). k.dst) (λ (t : Triple). t.dst) in_side (λ (p : Places). p.in_at) (ins nodes) places h.ins (out_link v t) k in
+      has_vertex_of names nodes (keys_of places) t.other ∙ stands_in (lookup (nat_eq t.other) nodes) s.0 (slice_get_within (ins nodes t.other) s.0 s.1 s.2)
+
+  pub in_end : (v i : ℕ) (t : Turn) → slice_get (ins nodes v) i ≡ Some t → IsTrue (has_vertex (kept_graph names (map vertex_of nodes) (keys_of places)) t.other)
+  in_end v i t e =
+      let k = link_stands in_link (λ (k : Link). k.dst) (λ (t : Triple). t.dst) in_side (λ (p : Places). p.in_at) (ins nodes) places h.ins v i t e in
+      let s = turn_stands out_link (λ (k : Link). k.src) (λ (t : Triple). t.src) out_side (λ (p : Places). p.out_at) (outs nodes) places h.outs (in_link v t) k in
+      has_vertex_of names nodes (keys_of places) t.other ∙ stands_out (lookup (nat_eq t.other) nodes) s.0 (slice_get_within (outs nodes t.other) s.0 s.1 s.2)

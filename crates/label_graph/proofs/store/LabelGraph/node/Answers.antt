@@ -1,0 +1,7 @@
+use Rattle.std.proofs.Common.{sym, ◌∙◌}
+use Rattle.std.specs.Map.{keys_of}
+use Rattle.label_graph.proofs.StoreLemmas.{has_vertex_of}
+use Rattle.label_graph.proofs.store.LabelGraph.node.Goals as goal
+
+pub index-requires : goal.index-requires
+index-requires c = sym (has_vertex_of c.args.self.now.names c.args.self.now.nodes.entries (keys_of c.args.self.now.places.entries) c.args.v) ∙ c.requires

@@ -1,0 +1,10 @@
+use Rattle.std.proofs.Common.{ap, length, sym, ◌∙◌}
+use Rattle.label_graph.specs.Places.{outs_of}
+use Rattle.label_graph.proofs.RowLemmas.{out_degree_is}
+use Rattle.label_graph.proofs.store.hold.LabelGraphHoldGraph.out_degree.Goals as goal
+
+pub returns : goal.returns
+returns c =
+    ap length c.as_slice.ensures.value
+    ∙ (sym (ap (λ o. length (outs_of o)) c.node.ensures)
+    ∙ out_degree_is c.args.self.now.names c.args.self.now.nodes.entries c.args.self.now.places.entries c.args.self.now.placed c.args.self.now.named c.len-names.ensures.table c.args.v)

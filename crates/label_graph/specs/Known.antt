@@ -1,0 +1,10 @@
+-- A triple by the number of its label, where that has one.
+use Rattle.std.specs.Prelude.{ℕ, Bool, false, List, Option, None, Some, is_some}
+use Rattle.std.specs.Map.{lookup}
+use Rattle.label_graph.specs.declared.link.Link.{Link}
+use Rattle.label_graph.specs.declared.link.Places.{Places}
+use Rattle.label_graph.specs.Places.{link_eq}
+
+abbrev pub known_stands : List (Link × Places) → Option ℕ → ℕ → ℕ → Bool
+known_stands places None src dst = false
+known_stands places (Some n) src dst = is_some (lookup (link_eq (record { src = src; label = n; dst = dst })) places)

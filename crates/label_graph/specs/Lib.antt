@@ -1,0 +1,11 @@
+pub mod Rows
+pub mod Held
+pub mod Changes
+pub mod Places
+pub mod Sorted
+pub mod Names
+pub mod Table
+pub mod Store
+pub mod Known
+pub mod SetNames
+pub mod Seen

@@ -1,0 +1,79 @@
+-- Rows, and where a triple stands in them.
+use Rattle.std.specs.Prelude.{◌≡◌, ◌≢◌, ℕ, ◌+◌, ◌<◌, ◌&&◌, ◌==◌, nat_eq, Bool, List, [], Option, Some, None, option_map, slice_get, length, IsSomeAnd, vec_len, vec_capacity}
+use Rattle.std.specs.Map.{lookup}
+use Rattle.flux_model.specs.declared.graph.Vertex.{Vertex}
+use Rattle.label_graph.specs.declared.link.Link.{Link}
+use Rattle.label_graph.specs.declared.link.Turn.{Turn}
+use Rattle.label_graph.specs.declared.link.Places.{Places}
+use Rattle.label_graph.specs.declared.link.Node.{Node}
+
+-- what stands at a place, and the place where it stands: each is the other read backwards
+pub record AreInverse {A B : Type 0} (f : A → Option B) (g : B → Option A) : Type 0 where
+  pub there : (a : A) (b : B) → f a ≡ Some b → g b ≡ Some a
+  pub back : (b : B) (a : A) → g b ≡ Some a → f a ≡ Some b
+
+abbrev pub link_eq : Link → Link → Bool
+link_eq k l = (k.src == l.src) && ((k.label == l.label) && (k.dst == l.dst))
+
+-- ---- rows
+
+abbrev pub outs_of : Option Node → List Turn
+outs_of None = []
+outs_of (Some p) = p.outs.items
+
+abbrev pub ins_of : Option Node → List Turn
+ins_of None = []
+ins_of (Some p) = p.ins.items
+
+abbrev pub outs : List (ℕ × Node) → ℕ → List Turn
+outs nodes v = outs_of (lookup (nat_eq v) nodes)
+
+abbrev pub ins : List (ℕ × Node) → ℕ → List Turn
+ins nodes v = ins_of (lookup (nat_eq v) nodes)
+
+-- the labels of a vertex, where it stands
+abbrev pub labels_at : List (ℕ × Node) → ℕ → Option (List (List ℕ))
+labels_at nodes v = option_map (λ p. p.labels) (lookup (nat_eq v) nodes)
+
+-- the triple of a turn, in the out row of a vertex and in its in row
+abbrev pub out_link : ℕ → Turn → Link
+out_link v t = record { src = v; label = t.label; dst = t.other }
+
+abbrev pub in_link : ℕ → Turn → Link
+in_link v t = record { src = t.other; label = t.label; dst = v }
+
+-- the triple at a place of rows: a vertex, and a number in its row
+abbrev pub link_at : (ℕ → Turn → Link) → (ℕ → List Turn) → ℕ × ℕ → Option Link
+link_at link rows a = option_map (link a.0) (slice_get (rows a.0) a.1)
+
+-- a row after its turn at i was taken away and its last turn put there
+pub record IsPulled (i : ℕ) (xs ys : List Turn) : Type 0 where
+  pub shorter : length ys + 1 ≡ length xs
+  pub moved : i < length ys → slice_get ys i ≡ slice_get xs (length ys)
+  pub others : (k : ℕ) → k ≢ i → k < length ys → slice_get ys k ≡ slice_get xs k
+
+-- ---- places
+
+abbrev pub out_place : List (Link × Places) → Link → Option (ℕ × ℕ)
+out_place places k = option_map (λ p. (k.src, p.out_at)) (lookup (link_eq k) places)
+
+abbrev pub in_place : List (Link × Places) → Link → Option (ℕ × ℕ)
+in_place places k = option_map (λ p. (k.dst, p.in_at)) (lookup (link_eq k) places)
+
+-- the triples stand in the rows at the places that are noted for them, and nothing else does
+pub record ArePlaced (nodes : List (ℕ × Node)) (places : List (Link × Places)) : Type 0 where
+  pub outs : AreInverse (link_at out_link (outs nodes)) (out_place places)
+  pub ins : AreInverse (link_at in_link (ins nodes)) (in_place places)
+
+-- ---- room for one more turn
+
+abbrev pub HasRoomOut : List (ℕ × Node) → ℕ → Type 0
+HasRoomOut nodes v = IsSomeAnd (lookup (nat_eq v) nodes) (λ p. vec_len p.outs < vec_capacity p.outs)
+
+abbrev pub HasRoomIn : List (ℕ × Node) → ℕ → Type 0
+HasRoomIn nodes v = IsSomeAnd (lookup (nat_eq v) nodes) (λ p. vec_len p.ins < vec_capacity p.ins)
+
+-- ---- vertices
+
+abbrev pub vertex_of : ℕ × Node → Vertex
+vertex_of e = record { id = e.0; labels = e.1.labels }

@@ -1,0 +1,14 @@
+//! The hashed look-ups of a store. Their hasher is chosen here, and nowhere else.
+use crate::link::{Link, Node, Places};
+use flux_model::Text;
+use indexmap::IndexMap;
+use std::collections::HashMap;
+
+/// What is kept of each vertex, by its id, in the store's own order.
+pub type Nodes = IndexMap<u32, Node>;
+
+/// Where each triple stands in the rows of its ends.
+pub type Standing = HashMap<Link, Places>;
+
+/// The number of each label name in use.
+pub type Numbers = HashMap<Text, u32>;

@@ -1,0 +1,32 @@
+//! Triples by numbers, and what a vertex keeps.
+use flux_model::Labels;
+
+/// A triple, by its ends and the number of its label.
+#[derive(Clone, Copy, PartialEq, Eq, Hash, Debug)]
+pub struct Link {
+    pub src: u32,
+    pub label: u32,
+    pub dst: u32,
+}
+
+/// What a row has of a triple: its label and its other end.
+#[derive(Clone, Copy, PartialEq, Eq, Debug)]
+pub struct Turn {
+    pub label: u32,
+    pub other: u32,
+}
+
+/// Where a triple stands in the out row of its source and in the in row of its target.
+#[derive(Clone, Copy, Debug)]
+pub struct Places {
+    pub out_at: usize,
+    pub in_at: usize,
+}
+
+/// A vertex: its labels and its two rows.
+#[derive(Drop)]
+pub struct Node {
+    pub labels: Labels,
+    pub outs: Vec<Turn>,
+    pub ins: Vec<Turn>,
+}

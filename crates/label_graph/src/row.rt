@@ -1,0 +1,118 @@
+//! Changes of one row.
+ghost use Rattle.std.specs.Prelude.{map, ◌≡◌, ◌≢◌, ℕ, ◌+◌, ◌-◌, ◌<◌, ◌++◌, ◌∷◌, [], None, Some, IsSome, MatchOption, slice_get, nat_eq, length, OnOk, OnErr, IfSome};
+ghost use Rattle.std.specs.Map.{lookup, keys_of};
+ghost use Rattle.label_graph.specs.Places.{outs, ins, vertex_of, IsPulled, HasRoomOut, HasRoomIn};
+
+use crate::hashed::Nodes;
+use crate::link::{Node, Turn};
+use std::alloc::AllocError;
+
+/// Takes the turn at this place away and puts the last one there, which is the result if it is another.
+fn pull(row: &mut Vec<Turn>, i: usize) -> Option<Turn>
+    requires { i < length row.old.items }
+    ensures row { IsPulled i row.old.items row.new.items }
+    ensures moved { result ≡ slice_get row.new.items i }
+{
+    row.swap_remove(i);
+    row.get(i).copied()
+}
+
+/// Makes room for one more turn in an out row.
+#[tactic(auto, using(crate::proofs::NodeLemmas::vertices_kept))]
+pub fn reserve_out(nodes: &mut Nodes, v: u32) -> Result<(), AllocError>
+    requires { IsSome (lookup (nat_eq v) nodes.old.entries) }
+    ensures outs { (q : ℕ) → outs nodes.new.entries q ≡ outs nodes.old.entries q }
+    ensures ins { (q : ℕ) → ins nodes.new.entries q ≡ ins nodes.old.entries q }
+    ensures vertices { map vertex_of nodes.new.entries ≡ map vertex_of nodes.old.entries }
+    ensures keys { keys_of nodes.new.entries ≡ keys_of nodes.old.entries }
+    ensures room { OnOk result (HasRoomOut nodes.new.entries v) }
+{
+    let node = nodes.get_mut(&v).unwrap();
+    node.outs.reserve(1)
+}
+
+/// Puts a turn at the end of an out row.
+#[tactic(auto, using(crate::proofs::NodeLemmas::vertices_kept))]
+pub fn push_out(nodes: &mut Nodes, v: u32, turn: Turn) -> usize
+    requires { HasRoomOut nodes.old.entries v }
+    ensures row { outs nodes.new.entries v ≡ outs nodes.old.entries v ++ turn ∷ [] }
+    ensures others { (q : ℕ) → q ≢ v → outs nodes.new.entries q ≡ outs nodes.old.entries q }
+    ensures ins { (q : ℕ) → ins nodes.new.entries q ≡ ins nodes.old.entries q }
+    ensures vertices { map vertex_of nodes.new.entries ≡ map vertex_of nodes.old.entries }
+    ensures keys { keys_of nodes.new.entries ≡ keys_of nodes.old.entries }
+    ensures keeps { (q : ℕ) → HasRoomIn nodes.old.entries q → HasRoomIn nodes.new.entries q }
+    ensures place { result ≡ length (outs nodes.old.entries v) }
+{
+    let node = nodes.get_mut(&v).unwrap();
+    let at = node.outs.len();
+    match node.outs.push(turn) {
+        Ok(()) => at,
+        Err(_) => unreachable!(),
+    }
+}
+
+/// Takes a turn of an out row away, and moves the last one there.
+#[tactic(auto, using(crate::proofs::NodeLemmas::vertices_kept))]
+pub fn pull_out(nodes: &mut Nodes, v: u32, i: usize) -> Option<Turn>
+    requires stands { IsSome (lookup (nat_eq v) nodes.old.entries) }
+    requires within { i < length (outs nodes.old.entries v) }
+    ensures row { IsPulled i (outs nodes.old.entries v) (outs nodes.new.entries v) }
+    ensures moved { result ≡ slice_get (outs nodes.new.entries v) i }
+    ensures others { (q : ℕ) → q ≢ v → outs nodes.new.entries q ≡ outs nodes.old.entries q }
+    ensures ins { (q : ℕ) → ins nodes.new.entries q ≡ ins nodes.old.entries q }
+    ensures vertices { map vertex_of nodes.new.entries ≡ map vertex_of nodes.old.entries }
+    ensures keys { keys_of nodes.new.entries ≡ keys_of nodes.old.entries }
+{
+    let node = nodes.get_mut(&v).unwrap();
+    pull(&mut node.outs, i)
+}
+
+/// Makes room for one more turn in an in row.
+#[tactic(auto, using(crate::proofs::NodeLemmas::vertices_kept))]
+pub fn reserve_in(nodes: &mut Nodes, v: u32) -> Result<(), AllocError>
+    requires { IsSome (lookup (nat_eq v) nodes.old.entries) }
+    ensures ins { (q : ℕ) → ins nodes.new.entries q ≡ ins nodes.old.entries q }
+    ensures outs { (q : ℕ) → outs nodes.new.entries q ≡ outs nodes.old.entries q }
+    ensures vertices { map vertex_of nodes.new.entries ≡ map vertex_of nodes.old.entries }
+    ensures keys { keys_of nodes.new.entries ≡ keys_of nodes.old.entries }
+    ensures keeps { (q : ℕ) → HasRoomOut nodes.old.entries q → HasRoomOut nodes.new.entries q }
+    ensures room { OnOk result (HasRoomIn nodes.new.entries v) }
+{
+    let node = nodes.get_mut(&v).unwrap();
+    node.ins.reserve(1)
+}
+
+/// Puts a turn at the end of an in row.
+#[tactic(auto, using(crate::proofs::NodeLemmas::vertices_kept))]
+pub fn push_in(nodes: &mut Nodes, v: u32, turn: Turn) -> usize
+    requires { HasRoomIn nodes.old.entries v }
+    ensures row { ins nodes.new.entries v ≡ ins nodes.old.entries v ++ turn ∷ [] }
+    ensures others { (q : ℕ) → q ≢ v → ins nodes.new.entries q ≡ ins nodes.old.entries q }
+    ensures outs { (q : ℕ) → outs nodes.new.entries q ≡ outs nodes.old.entries q }
+    ensures vertices { map vertex_of nodes.new.entries ≡ map vertex_of nodes.old.entries }
+    ensures keys { keys_of nodes.new.entries ≡ keys_of nodes.old.entries }
+    ensures place { result ≡ length (ins nodes.old.entries v) }
+{
+    let node = nodes.get_mut(&v).unwrap();
+    let at = node.ins.len();
+    match node.ins.push(turn) {
+        Ok(()) => at,
+        Err(_) => unreachable!(),
+    }
+}
+
+/// Takes a turn of an in row away, and moves the last one there.
+#[tactic(auto, using(crate::proofs::NodeLemmas::vertices_kept))]
+pub fn pull_in(nodes: &mut Nodes, v: u32, i: usize) -> Option<Turn>
+    requires stands { IsSome (lookup (nat_eq v) nodes.old.entries) }
+    requires within { i < length (ins nodes.old.entries v) }
+    ensures row { IsPulled i (ins nodes.old.entries v) (ins nodes.new.entries v) }
+    ensures moved { result ≡ slice_get (ins nodes.new.entries v) i }
+    ensures others { (q : ℕ) → q ≢ v → ins nodes.new.entries q ≡ ins nodes.old.entries q }
+    ensures outs { (q : ℕ) → outs nodes.new.entries q ≡ outs nodes.old.entries q }
+    ensures vertices { map vertex_of nodes.new.entries ≡ map vertex_of nodes.old.entries }
+    ensures keys { keys_of nodes.new.entries ≡ keys_of nodes.old.entries }
+{
+    let node = nodes.get_mut(&v).unwrap();
+    pull(&mut node.ins, i)
+}

@@ -1,0 +1,71 @@
+//! The sizes and the rows of a `LabelGraph`.
+ghost use Rattle.std.specs.Prelude.{◌≡◌, ◌≤◌, Some, nat_eq, length, IsTrue};
+ghost use Rattle.std.specs.Map.{lookup, keys_of};
+ghost use Rattle.flux_model.specs.Graph.{has_vertex};
+ghost use Rattle.label_graph.specs.Places.{outs, ins};
+ghost use Rattle.label_graph.specs.Seen.{graph_in, outs_in, ins_in};
+
+use crate::hold::HoldGraph;
+use crate::link::Node;
+use crate::spot::Spot;
+use crate::store::LabelGraph;
+
+impl LabelGraph {
+    /// What is kept of `v`, which has to be a vertex.
+    pub(super) fn node(&self, v: u32) -> &Node
+        requires { IsTrue (has_vertex (graph_in self.now) v) }
+        ensures { lookup (nat_eq v) self.now.nodes.entries ≡ Some result.now }
+    {
+        &self.nodes[&v]
+    }
+}
+
+impl HoldGraph for LabelGraph {
+    ghost graph = { graph_in };
+
+    ghost limits = { λ s. s.limits };
+
+    ghost listed = { λ s. keys_of s.nodes.entries };
+
+    ghost outs_from = { outs_in };
+
+    ghost ins_from = { ins_in };
+
+    ghost is_out_place = { λ s v at. at.place ≤ length (outs s.nodes.entries v) };
+
+    ghost is_in_place = { λ s v at. at.place ≤ length (ins s.nodes.entries v) };
+
+    fn vertex_count(&self) -> u64 {
+        self.nodes.len() as u64
+    }
+
+    fn edge_count(&self) -> u64 {
+        // For the proof: no two names are the same.
+        let _names = self.names.len();
+        self.places.len() as u64
+    }
+
+    fn out_degree(&self, v: u32) -> u64 {
+        // For the proof: no two names are the same.
+        let _names = self.names.len();
+        self.node(v).outs.as_slice().len() as u64
+    }
+
+    fn in_degree(&self, v: u32) -> u64 {
+        // For the proof: no two names are the same.
+        let _names = self.names.len();
+        self.node(v).ins.as_slice().len() as u64
+    }
+
+    fn out_row(&self, _v: u32) -> Spot {
+        // For the proof: no two names are the same.
+        let _names = self.names.len();
+        Spot { place: 0 }
+    }
+
+    fn in_row(&self, _v: u32) -> Spot {
+        // For the proof: no two names are the same.
+        let _names = self.names.len();
+        Spot { place: 0 }
+    }
+}

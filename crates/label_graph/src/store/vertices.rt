@@ -1,0 +1,56 @@
+//! What the changes of vertices ask, and a vertex without triples.
+ghost use Rattle.std.specs.Prelude.{◌≡◌, ◌||◌, ◌+◌, ◌<◌, ◌++◌, ◌∷◌, [], ℕ, None, Some, cond, nat_eq, nat_le, nat_lt, length, IsSome, IfOk};
+ghost use Rattle.std.specs.Map.{lookup};
+ghost use Rattle.indexmap.specs.IndexMap.{spare};
+ghost use Rattle.label_graph.specs.Places.{outs, ins};
+
+use crate::hashed::Nodes;
+use crate::link::Node;
+use flux_model::Labels;
+use std::alloc::{AllocError, Global};
+
+/// Whether the vertices are as many as their limit, or the names, with some more, pass theirs.
+pub fn lacks_room(limit: u64, count: usize, name_limit: u64, names: usize, more: usize) -> bool
+    ensures { result ≡ (nat_le limit count || nat_lt name_limit (names + more)) }
+{
+    let many = match name_limit.checked_sub(names as u64) {
+        Some(room) => room < more as u64,
+        None => true,
+    };
+    limit <= count as u64 || many
+}
+
+/// Whether a row of the vertex has a turn.
+pub fn has_turns(nodes: &Nodes, v: u32) -> bool
+    requires { IsSome (lookup (nat_eq v) nodes.now.entries) }
+    ensures { result ≡ (nat_lt 0 (length (outs nodes.now.entries v)) || nat_lt 0 (length (ins nodes.now.entries v))) }
+{
+    let node = &nodes[&v];
+    !node.outs.is_empty() || !node.ins.is_empty()
+}
+
+/// A vertex with these labels and no triples.
+pub fn bare_node(alloc: Global, labels: &Labels) -> Result<Node, AllocError>
+    ensures labels { IfOk result (λ node. node.labels ≡ labels.now) }
+    ensures outs { IfOk result (λ node. node.outs.items ≡ []) }
+    ensures ins { IfOk result (λ node. node.ins.items ≡ []) }
+{
+    Ok(Node {
+        labels: labels.copy()?,
+        outs: Vec::new(alloc),
+        ins: Vec::new(alloc),
+    })
+}
+
+/// Puts a new vertex behind the others. There has to be room for it.
+pub fn put_node(nodes: &mut Nodes, id: u32, node: Node)
+    requires room { 0 < spare nodes.old }
+    requires new { lookup (nat_eq id) nodes.old.entries ≡ None }
+    ensures entries { nodes.new.entries ≡ nodes.old.entries ++ (id, node) ∷ [] }
+    ensures found { (q : ℕ) → lookup (nat_eq q) nodes.new.entries ≡ cond (nat_eq id q) (Some node) (lookup (nat_eq q) nodes.old.entries) }
+{
+    match nodes.insert(id, node) {
+        Ok(_) => {}
+        Err(_) => unreachable!(),
+    }
+}
