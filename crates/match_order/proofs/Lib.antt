@@ -1,0 +1,7 @@
+pub mod FrontierLemmas
+pub mod PlaceLemmas
+pub mod SpanLemmas
+pub mod WholeLemmas
+pub mod CallerLemmas
+pub mod LinkLemmas
+pub mod PatternLemmas
