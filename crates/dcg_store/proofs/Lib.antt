@@ -1,0 +1,10 @@
+pub mod CountLemmas
+pub mod LayerLemmas
+pub mod PairLemmas
+pub mod RowsLemmas
+pub mod ListLemmas
+pub mod StateLemmas
+pub mod BoundLemmas
+pub mod LiveLemmas
+pub mod CallerLemmas
+pub mod ExampleLemmas
