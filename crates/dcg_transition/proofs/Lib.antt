@@ -1,0 +1,10 @@
+pub mod LevelLemmas
+pub mod CallerLemmas
+pub mod JointLemmas
+pub mod SumLemmas
+pub mod EndLemmas
+pub mod BegunLemmas
+pub mod OutLemmas
+pub mod ReachLemmas
+pub mod RootLemmas
+pub mod ExtendLemmas

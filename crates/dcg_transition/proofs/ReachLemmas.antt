@@ -1,0 +1,246 @@
+-- The rows of one pattern vertex, from those of its parent.
+use Rattle.std.proofs.Common.{◌≡◌, ℕ, zero, suc, ◌+◌, ◌-◌, ◌^◌, ◌<◌, ◌≤◌, Bool, true, false, cond, ◌==◌, ◌&&◌, nat_lt, List, [], ◌∷◌, map, length, take, inl, inr, refl, sym, ap, subst, ◌∙◌, arith}
+use Rattle.std.specs.Prelude.{◌⊎◌, Option, None, Some, count_by, slice_index, slice_index_or, slice_get, replicate, IsPermutation}
+use Rattle.std.specs.Option.{is_some}
+use Rattle.std.specs.List.{sum_by, list_any, filter_map, cons_option}
+use Rattle.std.specs.Str.{bytes_eq}
+use Rattle.std.proofs.lemmas.Bool.{and_parts, eqb-true, lt-ltb, cases_eq}
+use Rattle.std.proofs.lemmas.List.{take_all}
+use Rattle.std.proofs.lemmas.List.Sums.{sum_by-take-le, sum_by_more, count_by-le-length}
+use Rattle.std.proofs.lemmas.Option.{get_or_from_slice_get, slice_get_within}
+use Rattle.std.proofs.lemmas.List.Sorted.{sum_by-IsPermutation}
+use Rattle.std.proofs.lemmas.List.FromFn.{get_or-map-range_with_len}
+use Rattle.flux_model.specs.Graph.{Graph, IsGraph, ids}
+use Rattle.flux_model.specs.Pattern.{PatternGraph, vertex_count, fits, fits_labels}
+use Rattle.flux_model.specs.Tree.{QueryTree, link_at, edge_at, children, BelongsTo}
+use Rattle.flux_model.specs.States.{Joint, Joined, joined, joint_of, reaches}
+use Rattle.flux_model.specs.Exact.{Row, StateRows, row_at, in_count}
+use Rattle.flux_model.specs.declared.graph.Triple.{Triple}
+use Rattle.flux_model.specs.declared.pattern.PatternEdge.{PatternEdge}
+use Rattle.flux_model.specs.declared.limits.Limits.{Limits}
+use Rattle.flux_model.specs.declared.tree.TreeLink.{TreeLink}
+use Rattle.label_graph.specs.Held.{IsHeld}
+use Rattle.query_tree.specs.Depth.{depth}
+use Rattle.query_tree.proofs.CallerLemmas.{link_within, depth-below}
+use Rattle.dcg_store.proofs.ListLemmas.{In, some_counted, found_in}
+use Rattle.dcg_store.proofs.StateLemmas.{fits_of_reaches}
+use Rattle.dcg_store.proofs.BoundLemmas.{fits-id, length-filter_map}
+use Rattle.dcg_transition.specs.Ends.{ends, direction_to}
+use Rattle.dcg_transition.specs.Filled.{begun, ins_at, joins, AreBegun, HasMoreIns, counted_row}
+use Rattle.dcg_transition.specs.Levels.{is_before, IsReached}
+use Rattle.dcg_transition.specs.Branches.{IsBranchOf, joins_from}
+use Rattle.dcg_transition.specs.declared.branch.Branch.{Branch}
+use Rattle.dcg_transition.proofs.CallerLemmas.{reaches-below}
+use Rattle.dcg_transition.proofs.JointLemmas.{count_same, ends_few, ends_down, ends_up, apart, joints_of_row}
+use Rattle.dcg_transition.proofs.SumLemmas.{sum_alike, sum_of_joints, distinct_ids}
+use Rattle.dcg_transition.proofs.BegunLemmas.{ins_of, more_twice}
+use Rattle.dcg_transition.proofs.LevelLemmas.{before_other, before_here, before_not, before_less}
+
+-- ---- rows of which no out counter is raised
+
+abbrev pub no_child : ℕ → Bool
+no_child c = false
+
+abbrev nothing : ℕ → ℕ
+nothing c = 0
+
+zeros : (cs : List ℕ) → map nothing cs ≡ replicate (length cs) 0
+zeros [] = refl
+zeros (c ∷ cs) = ap (λ (ns : List ℕ). 0 ∷ ns) (zeros cs)
+
+begun_cases : (width n : ℕ) (b : Bool) → nat_lt 0 n ≡ b → begun width n ≡ cond b (Some (record { ins = n; outs = replicate width 0 })) None
+begun_cases width zero true h = absurd (let bad : false ≡ true = h in cc)
+begun_cases width zero false h = refl
+begun_cases width (suc k) true h = refl
+begun_cases width (suc k) false h = absurd (let bad : true ≡ false = sym (lt-ltb 0 (suc k) (omega arith)) ∙ h in cc)
+
+-- as many counters of 0 as children
+pub begun_row : (j : Joined) (u v n : ℕ) → n ≡ in_count j u v → nat_lt 0 n ≡ reaches j u v → begun (length (children j.tree u)) n ≡ counted_row no_child j u v
+begun_row j u v n is reached =
+    begun_cases (length (children j.tree u)) n (reaches j u v) reached
+    ∙ (λ i. cond (reaches j u v) (Some (record { ins = is i; outs = sym (zeros (children j.tree u)) i })) None)
+
+some_if : (b : Bool) (row : Row) → is_some (cond b (Some row) None) ≡ b
+some_if true row = refl
+some_if false row = refl
+
+-- ---- what is in a list of joints
+
+from_filter_map : {X Y : Type 0} (f : X → Option Y) (y : Y) (xs : List X) → In y (filter_map f xs) → (x : X) × (f x ≡ Some y)
+from_filter_map {X} {Y} f y [] m = absurd m
+from_filter_map {X} {Y} f y (x ∷ xs) m = by (f x) refl m (from_filter_map f y xs)
+  where
+    by : (o : Option Y) → f x ≡ o → In y (cons_option o (filter_map f xs)) → (In y (filter_map f xs) → (z : X) × (f z ≡ Some y)) → (z : X) × (f z ≡ Some y)
+    by None e m rest = rest m
+    by (Some z) e m rest = elim m [ inl same ↦ (x, e ∙ ap (λ w. Some w) (sym same)) | inr later ↦ rest later ]
+
+kept_some : (b : Bool) (x y : Joint) → cond b (Some x) None ≡ Some y → (b ≡ true) × (x ≡ y)
+kept_some true x y h = (refl, cc)
+kept_some false x y h = let bad : None ≡ Some y = h in absurd cc
+
+pub implied : (b x : Bool) → (x ≡ true → b ≡ true) → (b && x) ≡ x
+implied b true h = ap (λ c. c && true) (h refl)
+implied true false h = refl
+implied false false h = refl
+
+-- ---- a vertex that hangs by a link
+
+module _ (q : PatternGraph) (t : QueryTree) (belongs : BelongsTo q t) (u : ℕ) (l : TreeLink) (link : link_at t u ≡ Some l) (g : Graph) where
+  abbrev over : Joined
+  over = joined q t g
+
+  joint_fits : (s : Triple) (e : Joint) → joint_of q t g u s ≡ Some e → fits q u g e.below ≡ true
+  joint_fits s e h = by ((edge_at q l.edge).head == u) refl
+    where
+      edge : PatternEdge
+      edge = edge_at q l.edge
+
+      by : (b : Bool) → ((edge_at q l.edge).head == u) ≡ b → fits q u g e.below ≡ true
+      by true down =
+          let kept = kept_some (bytes_eq (edge_at q l.edge).label s.label && fits q (edge_at q l.edge).tail g s.src && fits q (edge_at q l.edge).head g s.dst) (record { above = s.src; below = s.dst }) e (rw (link, down) at h) in
+          (λ i. fits q (sym (ends_down q t belongs u l link down).1 i) g (sym kept.1 i).below) ∙ (and_parts _ _ kept.0).1
+      by false up =
+          let kept = kept_some (bytes_eq (edge_at q l.edge).label s.label && fits q (edge_at q l.edge).tail g s.src && fits q (edge_at q l.edge).head g s.dst) (record { above = s.dst; below = s.src }) e (rw (link, up) at h) in
+          (λ i. fits q (sym (ends_up q t belongs u l link up).0 i) g (sym kept.1 i).below) ∙ (and_parts _ _ (and_parts _ _ kept.0).0).1
+
+  -- v is reached where a joint from a vertex that the parent reaches leads to it
+  pub reaches_step : (v : ℕ) → reaches over u v ≡ list_any (λ e. e.below == v && reaches over l.parent e.above) (over.joints u)
+  reaches_step v =
+      reaches-below over belongs.tree u v l link
+      ∙ implied (over.fits u v) (list_any test (over.joints u)) fit
+    where
+      test : Joint → Bool
+      test e = e.below == v && reaches over l.parent e.above
+
+      fit : list_any (λ e. e.below == v && reaches over l.parent e.above) (over.joints u) ≡ true → over.fits u v ≡ true
+      fit any =
+          let e = found_in (λ e. e.below == v && reaches over l.parent e.above) (over.joints u) any in
+          let s = from_filter_map (joint_of q t g u) e.0 g.triples e.1 in
+          ap (fits q u g) (sym (eqb-true e.0.below v (and_parts _ _ e.2).0)) ∙ joint_fits s.0 e.0 s.1
+
+  pub in_count_link : (v : ℕ) → in_count over u v ≡ count_by (λ e. e.below == v && reaches over l.parent e.above) (over.joints u)
+  in_count_link v = rw link refl
+
+  pub counted_in : (v : ℕ) → nat_lt 0 (in_count over u v) ≡ reaches over u v
+  counted_in v =
+      ap (nat_lt 0) (in_count_link v) ∙ some_counted (λ e. e.below == v && reaches over l.parent e.above) (over.joints u) ∙ sym (reaches_step v)
+
+  pub in_count_few : (v : ℕ) → in_count over u v ≤ length g.triples
+  in_count_few v =
+      omega (arith, in_count_link v, count_by-le-length (λ (e : Joint). e.below == v && reaches over l.parent e.above) (over.joints u), length-filter_map (joint_of q t g u) g.triples)
+
+-- ---- while the rows of a branch's child are made
+
+module _ (q : PatternGraph) (t : QueryTree) (belongs : BelongsTo q t) (b : Branch) (branch : IsBranchOf q t b) (g : Graph) (old : StateRows)
+    (reached : IsReached (joined q t g) (is_before t (depth t b.child) b.child) old) where
+  abbrev to_child : Joined
+  to_child = joined q t g
+
+  -- the parent's rows are there, and b.child's are not
+  pub parent_row : (v : ℕ) → row_at old b.link.parent v ≡ counted_row no_child to_child b.link.parent v
+  parent_row v =
+      reached.rows b.link.parent v
+      ∙ ap (λ s. cond s (counted_row no_child to_child b.link.parent v) None) (before_less t (depth t b.child) b.child b.link.parent (omega (arith, depth-below t belongs.tree b.child b.link branch.link)))
+
+  pub no_row : (v : ℕ) → row_at old b.child v ≡ None
+  no_row v = reached.rows b.child v ∙ ap (λ s. cond s (counted_row no_child to_child b.child v) None) (before_not t (depth t b.child) b.child refl)
+
+  pub no_ins : (v : ℕ) → ins_at old b.child v ≡ 0
+  no_ins v = ap ins_of (no_row v)
+
+  pub begins : AreBegun old b.child
+  begins v = no_row v ∙ ap (begun (slice_index old.children b.child)) (sym (no_ins v))
+
+  parent_reaches : (v : ℕ) → is_some (row_at old b.link.parent v) ≡ reaches to_child b.link.parent v
+  parent_reaches v = ap is_some (parent_row v) ∙ some_if (reaches to_child b.link.parent v) (record { ins = in_count to_child b.link.parent v; outs = map nothing (children t b.link.parent) })
+
+  row_joints : (v w : ℕ) → fits q b.link.parent g v ≡ true → count_by (joins g b.label.now b.labels.now w) (ends b.direction g v) ≡ count_by (λ e. e.above == v && e.below == w) (to_child.joints b.child)
+  row_joints v w fit =
+      (λ i. count_by (joins g (branch.label i) (branch.labels i) w) (ends (branch.direction i) g v))
+      ∙ count_same (joins g (edge_at q b.link.edge).label (slice_index_or q.labels b.child []) w) (λ x. bytes_eq (edge_at q b.link.edge).label x.label && (fits q b.child g x.other && x.other == w)) (ends (direction_to (edge_at q b.link.edge) b.child) g v)
+      (λ x. ap (λ s. bytes_eq (edge_at q b.link.edge).label x.label && ((s && fits_labels g (slice_index_or q.labels b.child []) x.other) && x.other == w)) (sym inside))
+      ∙ sym (joints_of_row q t belongs b.child b.link branch.link g v (λ x. x == w) fit)
+    where
+      inside : nat_lt b.child (vertex_count q) ≡ true
+      inside = lt-ltb b.child (vertex_count q) (omega (arith, link_within t b.child b.link branch.link, belongs.vertices))
+
+  from_joints : (w v : ℕ) → joins_from old b g w v ≡ cond (reaches to_child b.link.parent v) (count_by (λ e. e.above == v && e.below == w) (to_child.joints b.child)) 0
+  from_joints w v = ap (λ s. cond s (count_by (joins g b.label.now b.labels.now w) (ends b.direction g v)) 0) (parent_reaches v) ∙ by (reaches to_child b.link.parent v) refl
+    where
+      by : (s : Bool) → reaches to_child b.link.parent v ≡ s → cond s (count_by (joins g b.label.now b.labels.now w) (ends b.direction g v)) 0 ≡ cond s (count_by (λ e. e.above == v && e.below == w) (to_child.joints b.child)) 0
+      by true r = row_joints v w (fits_of_reaches to_child (length t.links) b.link.parent v r)
+      by false r = refl
+
+  -- to_child all vertices of the graph as many joints lead in as there are
+  from_all : IsGraph g → (w : ℕ) → sum_by (joins_from old b g w) (ids g) ≡ in_count to_child b.child w
+  from_all is w =
+      sum_alike (joins_from old b g w) (λ v. cond (reaches to_child b.link.parent v) (count_by (λ e. e.above == v && e.below == w) (to_child.joints b.child)) 0) (ids g) (from_joints w)
+      ∙ sum_of_joints (reaches to_child b.link.parent) w (ids g) (distinct_ids g is) (λ x h. fits-id q b.link.parent g x (fits_of_reaches to_child (length t.links) b.link.parent x h)) (to_child.joints b.child)
+      ∙ sym (in_count_link q t belongs b.child b.link branch.link g w)
+
+  module _ (limits : Limits) (held : IsHeld limits g) (listed : List ℕ) (each : IsPermutation listed (ids g)) where
+    from_listed : (w : ℕ) → sum_by (joins_from old b g w) listed ≡ in_count to_child b.child w
+    from_listed w = sym (sum_by-IsPermutation (joins_from old b g w) listed (ids g) each) ∙ from_all held.graph w
+
+    -- no in counter comes to its bound
+    pub room : (i v w : ℕ) (d : StateRows) → HasMoreIns b.child (λ x. sum_by (joins_from old b g x) (take i listed)) old d
+        → ins_at d b.child w + count_by (joins g b.label.now b.labels.now w) (ends b.direction g v) < 2 ^ 32 - 1
+    room i v w d grown =
+        omega (
+          arith,
+          grown.ins w,
+          no_ins w,
+          sum_by-take-le (joins_from old b g w) listed i,
+          from_listed w,
+          in_count_few q t belongs b.child b.link branch.link g w,
+          count_by-le-length (joins g b.label.now b.labels.now w) (ends b.direction g v),
+          ends_few g b.direction v,
+          held.within.triples,
+          held.fair.edges.1,
+        )
+
+    -- one vertex of the graph further
+    pub one_further : (i v : ℕ) (mid new : StateRows) → slice_get listed i ≡ Some v → HasMoreIns b.child (λ x. sum_by (joins_from old b g x) (take i listed)) old mid
+        → HasMoreIns b.child (λ w. joins_from mid b g w v) mid new → HasMoreIns b.child (λ x. sum_by (joins_from old b g x) (take (i + 1) listed)) old new
+    one_further i v mid new at so_far next =
+        more_twice b.child (λ x. sum_by (joins_from old b g x) (take i listed)) (λ w. joins_from mid b g w v)
+        (λ x. sum_by (joins_from old b g x) (take (i + 1) listed)) old mid new so_far next
+        (λ w.
+        let same = ap (λ o. cond (is_some o) (count_by (joins g b.label.now b.labels.now w) (ends b.direction g v)) 0) (so_far.beside.others b.link.parent v (λ e. apart q t belongs b.child b.link branch.link (sym e))) in
+        let within = slice_get_within listed i v at in
+        let here = ap (joins_from old b g w) (get_or_from_slice_get listed i v v at) in
+        omega (arith, sum_by_more (joins_from old b g w) listed i v within, here, same))
+
+    -- all vertices of the graph
+    pub vertex_reached : (i : ℕ) (new : StateRows) → length listed ≤ i → HasMoreIns b.child (λ x. sum_by (joins_from old b g x) (take i listed)) old new
+        → IsReached to_child (is_before t (depth t b.child) (b.child + 1)) new
+    vertex_reached i new end grown = record {
+      whole = grown.beside.whole ∙ reached.whole;
+      children = grown.beside.children ∙ reached.children;
+      rows = rows;
+    }
+      where
+        all : (v : ℕ) → ins_at new b.child v ≡ in_count to_child b.child v
+        all v =
+            let whole = ap (sum_by (joins_from old b g v)) (take_all i listed end) in
+            omega (arith, grown.ins v, no_ins v, whole, from_listed v)
+
+        width : slice_index new.children b.child ≡ length (children t b.child)
+        width =
+            ap (λ (ns : List ℕ). slice_index ns b.child) (grown.beside.children ∙ reached.children)
+            ∙ get_or-map-range_with_len (λ c. length (children t c)) 0 (length t.links) b.child b.child 0 (link_within t b.child b.link branch.link) (omega arith)
+
+        own : (v : ℕ) → row_at new b.child v ≡ counted_row no_child to_child b.child v
+        own v =
+            grown.begun v ∙ (λ i. begun (width i) (ins_at new b.child v))
+            ∙ begun_row to_child b.child v (ins_at new b.child v) (all v) (ap (nat_lt 0) (all v) ∙ counted_in q t belongs b.child b.link branch.link g v)
+
+        rows : (x v : ℕ) → row_at new x v ≡ cond (is_before t (depth t b.child) (b.child + 1) x) (counted_row no_child to_child x v) None
+        rows x v = by (cases_eq x b.child)
+          where
+            by : (x ≡ b.child) ⊎ (x ≡ b.child → ⊥) → row_at new x v ≡ cond (is_before t (depth t b.child) (b.child + 1) x) (counted_row no_child to_child x v) None
+            by (inl same) =
+                subst (λ z. row_at new z v ≡ cond (is_before t (depth t b.child) (b.child + 1) z) (counted_row no_child to_child z v) None) (sym same)
+                (own v ∙ sym (ap (λ s. cond s (counted_row no_child to_child b.child v) None) (before_here t (depth t b.child) b.child refl)))
+            by (inr other) =
+                grown.beside.others x v other ∙ reached.rows x v ∙ sym (ap (λ s. cond s (counted_row no_child to_child x v) None) (before_other t (depth t b.child) b.child x other))

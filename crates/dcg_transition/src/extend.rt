@@ -1,0 +1,158 @@
+//! The out counters, from the leaves up.
+ghost use Rattle.std.specs.Prelude.{◌≡◌, ◌≢◌, ◌<◌, ◌+◌, ◌-◌, length, slice_index, false, IsTrue};
+ghost use Rattle.std.specs.Option.{ForSome, IsSomeAnd};
+ghost use Rattle.flux_model.specs.Graph.{has_vertex};
+ghost use Rattle.flux_model.specs.Tree.{BelongsTo};
+ghost use Rattle.flux_model.specs.States.{joined};
+ghost use Rattle.flux_model.specs.Exact.{row_at, IsExact};
+ghost use Rattle.query_tree.specs.Depth.{depth};
+ghost use Rattle.dcg_transition.specs.Branches.{opens_from};
+ghost use Rattle.dcg_transition.specs.Filled.{is_open, opens, HasMoreOuts, HasRoomFor};
+ghost use Rattle.dcg_transition.specs.Levels.{depths_of, IsCounted, IsCountedTo};
+
+use crate::branch::Branch;
+use dcg_store::Dcg;
+use flux_model::{Ledger, Pattern, State, Steps};
+use label_graph::{HoldGraph, ReadGraph, Turn};
+use query_tree::QueryTree;
+
+/// Raises the out counters of all rows, where none is raised yet. `depths` has the depth of each vertex.
+pub fn extend<G: ReadGraph<L>, L: Ledger>(
+    graph: &G,
+    pattern: &Pattern,
+    tree: &QueryTree,
+    depths: &[usize],
+    dcg: &mut Dcg,
+    steps: &mut Steps<L>,
+)
+    requires belongs { BelongsTo pattern.now tree.now }
+    requires depths { depths.now ≡ depths_of tree.now }
+    requires reached { IsCounted (joined pattern.now tree.now (G.graph graph.now)) (λ _. false) dcg.old }
+    ensures { IsExact pattern.now tree.now (G.graph graph.now) dcg.new }
+{
+    let count = tree.vertex_count();
+    for done in 1..count {
+        extend_level(graph, pattern, tree, depths, count - done, dcg, steps);
+    }
+}
+
+/// Counts the vertices of one level at their parents, where those of the levels below are counted.
+fn extend_level<G: ReadGraph<L>, L: Ledger>(
+    graph: &G,
+    pattern: &Pattern,
+    tree: &QueryTree,
+    depths: &[usize],
+    level: usize,
+    dcg: &mut Dcg,
+    steps: &mut Steps<L>,
+)
+    requires belongs { BelongsTo pattern.now tree.now }
+    requires depths { depths.now ≡ depths_of tree.now }
+    requires below_root { 0 < level }
+    requires counted { IsCountedTo pattern.now tree.now (G.graph graph.now) level 0 dcg.old }
+    ensures { IsCountedTo pattern.now tree.now (G.graph graph.now) (level - 1) 0 dcg.new }
+{
+    for (u, depth) in depths.iter().enumerate() {
+        if *depth != level {
+            continue;
+        }
+        extend_to(graph, pattern, tree, u, dcg, steps);
+    }
+}
+
+/// Counts the vertex `u`, which is not the root, at its parent: each row gets the number of joints to explicit pairs of `u`.
+fn extend_to<G: ReadGraph<L>, L: Ledger>(
+    graph: &G,
+    pattern: &Pattern,
+    tree: &QueryTree,
+    u: usize,
+    dcg: &mut Dcg,
+    steps: &mut Steps<L>,
+)
+    requires belongs { BelongsTo pattern.now tree.now }
+    requires vertex { u < length tree.now.links }
+    requires not_root { u ≢ tree.now.root }
+    requires counted { IsCountedTo pattern.now tree.now (G.graph graph.now) (depth tree.now u) u dcg.old }
+    ensures { IsCountedTo pattern.now tree.now (G.graph graph.now) (depth tree.now u) (u + 1) dcg.new }
+{
+    let branch = Branch::of(pattern, tree, u);
+    for i in 0..graph.vertex_count() {
+        let v = graph.vertex_at(i, steps);
+        extend_from(graph, &branch, v, dcg, steps);
+    }
+}
+
+/// Counts the joints from `v` to explicit pairs, where the pair of the parent and `v` is not null.
+fn extend_from<G: ReadGraph<L>, L: Ledger>(
+    graph: &G,
+    branch: &Branch<'_>,
+    v: u32,
+    dcg: &mut Dcg,
+    steps: &mut Steps<L>,
+)
+    requires stands { IsTrue (has_vertex (G.graph graph.now) v) }
+    requires whole { dcg.old.is_broken ≡ false }
+    requires parent { branch.now.link.parent < length dcg.old.children }
+    requires child { branch.now.child < length dcg.old.children }
+    requires apart { branch.now.child ≢ branch.now.link.parent }
+    requires number { branch.now.number < slice_index dcg.old.children branch.now.link.parent }
+    requires room { ForSome (row_at dcg.old branch.now.link.parent v) (HasRoomFor branch.now.number (opens_from dcg.old branch.now (G.graph graph.now) v)) }
+    ensures { HasMoreOuts branch.now.link.parent v branch.now.number (opens_from dcg.old branch.now (G.graph graph.now) v) dcg.old dcg.new }
+{
+    match dcg.pair_state(branch.link.parent, v, steps) {
+        State::Null => {}
+        State::Implicit | State::Explicit => extend_ends(graph, branch, v, dcg, steps),
+    }
+}
+
+/// Counts the joints from `v` to explicit pairs.
+fn extend_ends<G: ReadGraph<L>, L: Ledger>(
+    graph: &G,
+    branch: &Branch<'_>,
+    v: u32,
+    dcg: &mut Dcg,
+    steps: &mut Steps<L>,
+)
+    requires stands { IsTrue (has_vertex (G.graph graph.now) v) }
+    requires whole { dcg.old.is_broken ≡ false }
+    requires parent { branch.now.link.parent < length dcg.old.children }
+    requires child { branch.now.child < length dcg.old.children }
+    requires apart { branch.now.child ≢ branch.now.link.parent }
+    requires number { branch.now.number < slice_index dcg.old.children branch.now.link.parent }
+    requires row { IsSomeAnd (row_at dcg.old branch.now.link.parent v) (HasRoomFor branch.now.number (opens_from dcg.old branch.now (G.graph graph.now) v)) }
+    ensures { HasMoreOuts branch.now.link.parent v branch.now.number (opens_from dcg.old branch.now (G.graph graph.now) v) dcg.old dcg.new }
+{
+    let mut at = branch.direction.row(graph, v);
+    while let Some(turn) = branch.direction.turn(graph, v, at, steps) {
+        at = turn.next;
+        if leads_on(dcg, branch, &turn, steps) {
+            dcg.raise_out(branch.link.parent, v, branch.number, steps);
+        }
+    }
+}
+
+/// Whether a triple of the parent's row is a joint to an explicit pair of the child.
+fn leads_on<L: Ledger>(
+    dcg: &Dcg,
+    branch: &Branch<'_>,
+    turn: &Turn<'_>,
+    steps: &mut Steps<L>,
+) -> bool
+    requires whole { dcg.now.is_broken ≡ false }
+    requires child { branch.now.child < length dcg.now.children }
+    ensures { result ≡ opens dcg.now branch.now.child branch.now.label.now (record { label = turn.now.label.now; other = turn.now.other }) }
+{
+    *branch.label == *turn.label && is_explicit(dcg, branch.child, turn.other, steps)
+}
+
+/// Whether the pair of `u` and `w` is explicit by its row.
+fn is_explicit<L: Ledger>(dcg: &Dcg, u: usize, w: u32, steps: &mut Steps<L>) -> bool
+    requires whole { dcg.now.is_broken ≡ false }
+    requires vertex { u < length dcg.now.children }
+    ensures { result ≡ is_open (row_at dcg.now u w) }
+{
+    match dcg.pair_state(u, w, steps) {
+        State::Explicit => true,
+        State::Null | State::Implicit => false,
+    }
+}

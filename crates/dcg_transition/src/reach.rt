@@ -1,0 +1,171 @@
+//! The rows, from the root down.
+ghost use Rattle.std.specs.Prelude.{◌≡◌, ◌≢◌, ◌<◌, ◌+◌, ◌&&◌, length, false, IsTrue, OnOk};
+ghost use Rattle.std.specs.FinMap.{empty};
+ghost use Rattle.std.specs.Str.{bytes_eq};
+ghost use Rattle.flux_model.specs.Graph.{has_vertex};
+ghost use Rattle.flux_model.specs.Pattern.{fits_labels};
+ghost use Rattle.flux_model.specs.Tree.{BelongsTo};
+ghost use Rattle.flux_model.specs.States.{joined};
+ghost use Rattle.query_tree.specs.Depth.{depth};
+ghost use Rattle.dcg_transition.specs.Branches.{joins_to, joins_from, HasRoomToJoin};
+ghost use Rattle.dcg_transition.specs.Filled.{child_counts, AreBegun, HasMoreIns};
+ghost use Rattle.dcg_transition.specs.Levels.{depths_of, IsReachedTo, IsCounted};
+
+use crate::branch::Branch;
+use dcg_store::Dcg;
+use flux_model::{Ledger, Pattern, State, Steps};
+use label_graph::{HoldGraph, ReadGraph, Turn};
+use query_tree::QueryTree;
+use std::alloc::AllocError;
+
+/// Makes the rows of all pairs that are not null, with no out counter raised. `depths` has the depth of each vertex.
+pub fn reach<G: ReadGraph<L>, L: Ledger>(
+    graph: &G,
+    pattern: &Pattern,
+    tree: &QueryTree,
+    depths: &[usize],
+    dcg: &mut Dcg,
+    steps: &mut Steps<L>,
+) -> Result<(), AllocError>
+    requires belongs { BelongsTo pattern.now tree.now }
+    requires depths { depths.now ≡ depths_of tree.now }
+    requires empty { dcg.old ≡ record { is_broken = false; children = child_counts tree.now; rows = empty } }
+    ensures { OnOk result (IsCounted (joined pattern.now tree.now (G.graph graph.now)) (λ _. false) dcg.new) }
+{
+    reach_root(graph, pattern, tree, dcg, steps)?;
+    for level in 1..tree.vertex_count() {
+        reach_level(graph, pattern, tree, depths, level, dcg, steps)?;
+    }
+    Ok(())
+}
+
+/// Makes the rows of the root.
+fn reach_root<G: ReadGraph<L>, L: Ledger>(
+    graph: &G,
+    pattern: &Pattern,
+    tree: &QueryTree,
+    dcg: &mut Dcg,
+    steps: &mut Steps<L>,
+) -> Result<(), AllocError>
+    requires belongs { BelongsTo pattern.now tree.now }
+    requires empty { dcg.old ≡ record { is_broken = false; children = child_counts tree.now; rows = empty } }
+    ensures { OnOk result (IsReachedTo pattern.now tree.now (G.graph graph.now) 1 0 dcg.new) }
+{
+    let root = tree.root();
+    let labels = pattern.labels(root);
+    for i in 0..graph.vertex_count() {
+        let v = graph.vertex_at(i, steps);
+        if graph.fits(v, labels, steps) {
+            dcg.raise_in(root, v, steps)?;
+        }
+    }
+    Ok(())
+}
+
+/// Makes the rows of the vertices of one level, where those of the levels above are there.
+fn reach_level<G: ReadGraph<L>, L: Ledger>(
+    graph: &G,
+    pattern: &Pattern,
+    tree: &QueryTree,
+    depths: &[usize],
+    level: usize,
+    dcg: &mut Dcg,
+    steps: &mut Steps<L>,
+) -> Result<(), AllocError>
+    requires belongs { BelongsTo pattern.now tree.now }
+    requires depths { depths.now ≡ depths_of tree.now }
+    requires below_root { 0 < level }
+    requires reached { IsReachedTo pattern.now tree.now (G.graph graph.now) level 0 dcg.old }
+    ensures { OnOk result (IsReachedTo pattern.now tree.now (G.graph graph.now) (level + 1) 0 dcg.new) }
+{
+    for (u, depth) in depths.iter().enumerate() {
+        if *depth != level {
+            continue;
+        }
+        reach_vertex(graph, pattern, tree, u, dcg, steps)?;
+    }
+    Ok(())
+}
+
+/// Makes the rows of the vertex `u`, which is not the root, from those of its parent.
+fn reach_vertex<G: ReadGraph<L>, L: Ledger>(
+    graph: &G,
+    pattern: &Pattern,
+    tree: &QueryTree,
+    u: usize,
+    dcg: &mut Dcg,
+    steps: &mut Steps<L>,
+) -> Result<(), AllocError>
+    requires belongs { BelongsTo pattern.now tree.now }
+    requires vertex { u < length tree.now.links }
+    requires not_root { u ≢ tree.now.root }
+    requires reached { IsReachedTo pattern.now tree.now (G.graph graph.now) (depth tree.now u) u dcg.old }
+    ensures { OnOk result (IsReachedTo pattern.now tree.now (G.graph graph.now) (depth tree.now u) (u + 1) dcg.new) }
+{
+    let branch = Branch::of(pattern, tree, u);
+    for i in 0..graph.vertex_count() {
+        let v = graph.vertex_at(i, steps);
+        reach_from(graph, &branch, v, dcg, steps)?;
+    }
+    Ok(())
+}
+
+/// Raises the in counters of the ends of the joints from `v`, where the pair of the parent and `v` is not null.
+fn reach_from<G: ReadGraph<L>, L: Ledger>(
+    graph: &G,
+    branch: &Branch<'_>,
+    v: u32,
+    dcg: &mut Dcg,
+    steps: &mut Steps<L>,
+) -> Result<(), AllocError>
+    requires stands { IsTrue (has_vertex (G.graph graph.now) v) }
+    requires whole { dcg.old.is_broken ≡ false }
+    requires parent { branch.now.link.parent < length dcg.old.children }
+    requires child { branch.now.child < length dcg.old.children }
+    requires begun { AreBegun dcg.old branch.now.child }
+    requires room { HasRoomToJoin dcg.old branch.now (G.graph graph.now) v }
+    ensures { OnOk result (HasMoreIns branch.now.child (λ w. joins_from dcg.old branch.now (G.graph graph.now) w v) dcg.old dcg.new) }
+{
+    match dcg.pair_state(branch.link.parent, v, steps) {
+        State::Null => Ok(()),
+        State::Implicit | State::Explicit => reach_ends(graph, branch, v, dcg, steps),
+    }
+}
+
+/// Raises the in counters of the ends of the joints from `v`.
+fn reach_ends<G: ReadGraph<L>, L: Ledger>(
+    graph: &G,
+    branch: &Branch<'_>,
+    v: u32,
+    dcg: &mut Dcg,
+    steps: &mut Steps<L>,
+) -> Result<(), AllocError>
+    requires stands { IsTrue (has_vertex (G.graph graph.now) v) }
+    requires whole { dcg.old.is_broken ≡ false }
+    requires child { branch.now.child < length dcg.old.children }
+    requires begun { AreBegun dcg.old branch.now.child }
+    requires room { HasRoomToJoin dcg.old branch.now (G.graph graph.now) v }
+    ensures { OnOk result (HasMoreIns branch.now.child (joins_to branch.now (G.graph graph.now) v) dcg.old dcg.new) }
+{
+    let mut at = branch.direction.row(graph, v);
+    while let Some(turn) = branch.direction.turn(graph, v, at, steps) {
+        at = turn.next;
+        if is_joint(graph, branch, &turn, steps) {
+            dcg.raise_in(branch.child, turn.other, steps)?;
+        }
+    }
+    Ok(())
+}
+
+/// Whether a triple of the parent's row is a joint: its label is the branch's, and its other end fits the child.
+fn is_joint<G: ReadGraph<L>, L: Ledger>(
+    graph: &G,
+    branch: &Branch<'_>,
+    turn: &Turn<'_>,
+    steps: &mut Steps<L>,
+) -> bool
+    requires { IsTrue (has_vertex (G.graph graph.now) turn.now.other) }
+    ensures { result ≡ (bytes_eq branch.now.label.now turn.now.label.now && fits_labels (G.graph graph.now) branch.now.labels.now turn.now.other) }
+{
+    *branch.label == *turn.label && graph.fits(turn.other, branch.labels, steps)
+}
