@@ -1,0 +1,13 @@
+pub mod GrowthLemmas
+pub mod SplitLemmas
+pub mod MemberLemmas
+pub mod EmbeddingLemmas
+pub mod ChosenLemmas
+pub mod EndLemmas
+pub mod PassLemmas
+pub mod GivenLemmas
+pub mod WholeLemmas
+pub mod TieLemmas
+pub mod TurnLemmas
+pub mod LiveLemmas
+pub mod CostLemmas

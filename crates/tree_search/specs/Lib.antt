@@ -1,0 +1,4 @@
+pub mod Ends
+pub mod Members
+pub mod Given
+pub mod Spent
