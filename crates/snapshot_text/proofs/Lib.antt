@@ -1,0 +1,7 @@
+pub mod GrownLemmas
+pub mod WordsLemmas
+pub mod OrderLemmas
+pub mod SortedLemmas
+pub mod VertexLemmas
+pub mod RowLemmas
+pub mod SourceLemmas

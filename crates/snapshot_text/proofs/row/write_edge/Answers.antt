@@ -1,0 +1,25 @@
+use Rattle.std.proofs.Common.{sym, ap}
+use Rattle.snapshot_text.specs.Words.{spaced}
+use Rattle.snapshot_text.specs.Row.{edge_triple}
+use Rattle.snapshot_text.proofs.GrownLemmas.{on_err, grew_same, grew_first, grew_later}
+use Rattle.snapshot_text.proofs.WordsLemmas.{triple_line-parts}
+use Rattle.snapshot_text.proofs.row.write_edge.Goals as goal
+
+pub returns-in_err-start_line-clause-err : goal.returns-in_err-start_line-clause-err
+returns-in_err-start_line-clause-err c =
+    on_err _ (grew_same _ _ _ _ (triple_line-parts (edge_triple c.args.src c.args.edge.now))
+    (grew_first _ _ _ _ c.in_err-start_line.ensures.err))
+
+pub returns-in_err-write_id-clause-err : goal.returns-in_err-write_id-clause-err
+returns-in_err-write_id-clause-err c =
+    on_err _ (grew_same _ _ _ _ (triple_line-parts (edge_triple c.args.src c.args.edge.now))
+    (grew_later _ _ _ _ _ c.in_ok-start_line.ensures.ok
+    (grew_first _ _ _ _ c.in_err-write_id.ensures.err)))
+
+pub returns-in_err-write_word-clause-err : goal.returns-in_err-write_word-clause-err
+returns-in_err-write_word-clause-err c =
+    on_err _ (grew_same _ _ _ _ (triple_line-parts (edge_triple c.args.src c.args.edge.now))
+    (grew_later _ _ _ _ _ c.in_ok-start_line.ensures.ok
+    (grew_later _ _ _ _ _ c.in_ok-write_id.ensures.ok
+    (grew_first _ _ _ _
+    (grew_same _ _ _ _ (ap spaced (sym c.bytes.ensures.value)) c.in_err-write_word.ensures.err)))))

@@ -1,0 +1,16 @@
+//! The one text of a graph: a line for each vertex, and then a line for each edge, each kind in ascending order.
+//!
+//! A store lists its vertices and the turns of a row in an order of its own; here they are put in order.
+//!
+//! - `graph`: `write_graph`, the vertices in the order of their ids, and the edges of each.
+//! - `row`: the edges that begin at one vertex, in order.
+//! - `words`: the words of a line.
+#![tactic(auto)]
+
+mod graph;
+mod row;
+#[cfg(test)]
+mod tests;
+mod words;
+
+pub use graph::write_graph;
