@@ -7,7 +7,7 @@ use Rattle.std.specs.Ordering.{nat_cmp, ordering_then, is_eq}
 use Rattle.std.proofs.lemmas.Bool.Decides.{nat_tests}
 use Rattle.flux_model.specs.Text.{text_cmp}
 use Rattle.flux_model.specs.Lines.{InputLine}
-use Rattle.flux_model.specs.FileReading.{result_and_then}
+use Rattle.flux_model.specs.FileReading.{result_and_then, refused_at}
 use Rattle.flux_model.specs.Graph.{Graph, LimitedGraph, IsGraph, apply, refuse, has_triple, has_both_ends, has_vertex, triple_cmp, name_count, with_triple}
 use Rattle.flux_model.specs.GraphFile.{at_line, graph_after_line, is_repeated_edge}
 use Rattle.flux_model.specs.Reading.{graph_reading}
@@ -128,3 +128,13 @@ pub line-refused : (k : ℕ) (s : LimitedGraph) (line : InputLine) (update : Upd
 line-refused k s line update c reads is e other =
     ap (λ said. result_and_then (λ g. Ok (record s { graph = g })) (graph_after_line s.limits k s.graph said)) reads
     ∙ ap (result_and_then (λ g. Ok (record s { graph = g }))) (changes s.limits k s.graph update (refused_no_repeat s.limits s.graph update c is e other) ∙ ap (at_line k) e)
+
+-- ---- a store takes the line
+
+pub store-takes : (k : ℕ) (s t : LimitedGraph) (line : InputLine) → t.limits ≡ s.limits
+    → graph_after_line s.limits k s.graph (graph_reading line) ≡ Ok t.graph → after_graph_line k s line ≡ Ok t
+store-takes k s t line limits e = ap (result_and_then (λ g. Ok (record s { graph = g }))) e ∙ ap (λ (kept : LimitedGraph). Ok kept) (same_kept s t limits)
+
+pub store-refuses : (k : ℕ) (s : LimitedGraph) (line : InputLine) (c : Code)
+    → graph_after_line s.limits k s.graph (graph_reading line) ≡ refused_at k c → after_graph_line k s line ≡ Err (record { line = k; code = c })
+store-refuses k s line c e = ap (result_and_then (λ g. Ok (record s { graph = g }))) e

@@ -77,6 +77,10 @@ graph-stops limits files name first now before after (stop.Bad bad) is h =
     (λ b e. refused_within (kept_under limits) (graph_of limits b) bad (sym (graph-read limits b) ∙ ap (λ s. read_from after_graph_line 1 s (lines limits.line_bytes b)) (sym is) ∙ e))
     h
 
+-- what an empty store keeps
+pub empty_under : (limits : Limits) (kept : LimitedGraph) → kept.limits ≡ limits → kept.graph ≡ empty_graph → kept ≡ record { limits = limits; graph = empty_graph }
+empty_under limits kept under empty = ap (λ (l : Limits). record kept { limits = l }) under ∙ ap (kept_under limits) empty
+
 -- ---- pattern files
 
 abbrev reading_under : Limits → Draft → PatternReading

@@ -1,13 +1,13 @@
 -- Why a run with words of a shape may end before it is done.
-use Rattle.std.specs.Prelude.{◌≡◌, ◌⊎◌, ℕ, ◌<◌, List, length, Option, IfSome, IsOk, Err, ⊤}
+use Rattle.std.specs.Prelude.{◌≡◌, ◌⊎◌, ℕ, ◌<◌, List, length, Option, IfSome, Err, ⊤}
 use Rattle.flux_outside.specs.Causes.{Rose}
 use Rattle.flux_outside.specs.Told.{Files}
 use Rattle.flux_model.specs.GraphFile.{graph_of}
 use Rattle.flux_model.specs.PatternFile.{patterns_of}
 use Rattle.flux_model.specs.declared.code.Bad.{Bad}
 use Rattle.flux_model.specs.declared.limits.Limits.{Limits}
-use Rattle.watch_cli.specs.Files.{HasFile, IsAbsent, IsLonger}
-use Rattle.watch_cli.specs.Words.{Names}
+use Rattle.watch_cli.specs.Files.{HasFile, IsAbsent, IsLonger, IsGoodGraph}
+use Rattle.watch_cli.specs.Words.{Shape, Watch, Save, graph_name}
 use Rattle.watch_cli.specs.declared.stop.Stop.{Stop}
 use Rattle.watch_cli.specs.declared.stop.Stop.TheVariants as stop
 use Rattle.watch_cli.specs.declared.halt.Halt.{Halt}
@@ -21,25 +21,29 @@ halt_of bad stop.NoFile = halt.NoFile
 halt_of bad stop.TooMuch = halt.TooMuch
 halt_of bad (stop.Bad b) = bad b
 
--- the graph file is there and accepted
-abbrev pub IsGoodGraph : Limits → Option Files → Names → Type 0
-IsGoodGraph limits files names = HasFile files names.graph (λ bytes. IsOk (graph_of limits bytes))
-
 -- the graph file is there, and this is its first refusal
-abbrev pub IsBadGraph : Limits → Option Files → Names → Bad → Type 0
-IsBadGraph limits files names bad = HasFile files names.graph (λ bytes. graph_of limits bytes ≡ Err bad)
+abbrev pub IsBadGraph : Limits → Option Files → Shape → Bad → Type 0
+IsBadGraph limits files shape bad = HasFile files (graph_name shape) (λ bytes. graph_of limits bytes ≡ Err bad)
 
--- the graph file is there and accepted, and this is the first refusal of the pattern file, which is there
-abbrev pub IsBadPatterns : Limits → Option Files → Names → Bad → Type 0
-IsBadPatterns limits files names bad = IsGoodGraph limits files names × HasFile files names.patterns (λ bytes. patterns_of limits bytes ≡ Err bad)
+-- the graph file is there and accepted, and this is the first refusal of the pattern file, which is there; `save` reads no patterns
+abbrev pub IsBadPatterns : Limits → Option Files → Shape → Bad → Type 0
+IsBadPatterns limits files (Watch graph patterns) bad = IsGoodGraph limits files graph × HasFile files patterns (λ bytes. patterns_of limits bytes ≡ Err bad)
+IsBadPatterns limits files (Save graph) bad = ⊥
 
--- one of the two files is not there
-abbrev pub OneAbsent : Option Files → Names → Type 0
-OneAbsent files names = IsAbsent files names.graph ⊎ IsAbsent files names.patterns
+-- one of the files that are named is not there
+abbrev pub OneAbsent : Option Files → Shape → Type 0
+OneAbsent files (Watch graph patterns) = IsAbsent files graph ⊎ IsAbsent files patterns
+OneAbsent files (Save graph) = IsAbsent files graph
 
--- one of the three inputs has more than n bytes
-abbrev pub OneLonger : Option Files → Names → Option (List ℕ) → ℕ → Type 0
-OneLonger files names left n = IsLonger files names.graph n ⊎ (IsLonger files names.patterns n ⊎ IfSome left (λ s. n < length s))
+-- one of the inputs that are read has more than n bytes
+abbrev pub OneLonger : Option Files → Shape → Option (List ℕ) → ℕ → Type 0
+OneLonger files (Watch graph patterns) left n = IsLonger files graph n ⊎ (IsLonger files patterns n ⊎ IfSome left (λ s. n < length s))
+OneLonger files (Save graph) left n = IsLonger files graph n
+
+-- the count of faults rose of one of those that are read: of the shelf, or of the updates
+abbrev pub OneRose : Shape → (shelf0 shelf1 read0 read1 : ℕ) → Type 0
+OneRose (Watch graph patterns) shelf0 shelf1 read0 read1 = Rose shelf0 shelf1 ⊎ Rose read0 read1
+OneRose (Save graph) shelf0 shelf1 read0 read1 = Rose shelf0 shelf1
 
 -- writing ends a run where memory is refused, or where the count of the sink's faults rose
 abbrev pub WriteHalts : (before now : ℕ) → Halt → Type 0
@@ -61,12 +65,12 @@ FollowHalts read0 read1 write0 write1 too_long halt.NoFile = ⊥
 FollowHalts read0 read1 write0 write1 too_long (halt.BadGraph _) = ⊥
 FollowHalts read0 read1 write0 write1 too_long (halt.BadPatterns _) = ⊥
 
--- what is so where the run ends so, for the counts of faults of the shelf, the updates and the output, before and after
-abbrev pub HaltsWhere : Limits → Option Files → Names → Option (List ℕ) → (shelf0 shelf1 read0 read1 write0 write1 : ℕ) → Halt → Type 0
-HaltsWhere limits files names left shelf0 shelf1 read0 read1 write0 write1 halt.Memory = ⊤
-HaltsWhere limits files names left shelf0 shelf1 read0 read1 write0 write1 halt.Read = Rose shelf0 shelf1 ⊎ Rose read0 read1
-HaltsWhere limits files names left shelf0 shelf1 read0 read1 write0 write1 halt.Write = Rose write0 write1
-HaltsWhere limits files names left shelf0 shelf1 read0 read1 write0 write1 halt.NoFile = OneAbsent files names
-HaltsWhere limits files names left shelf0 shelf1 read0 read1 write0 write1 halt.TooMuch = OneLonger files names left limits.input_bytes
-HaltsWhere limits files names left shelf0 shelf1 read0 read1 write0 write1 (halt.BadGraph bad) = IsBadGraph limits files names bad
-HaltsWhere limits files names left shelf0 shelf1 read0 read1 write0 write1 (halt.BadPatterns bad) = IsBadPatterns limits files names bad
+-- what is so where the run ends so; `reads` and `writes` say that the count of faults rose of what is read or written
+abbrev pub HaltsWhere : Limits → Option Files → Shape → Option (List ℕ) → (reads writes : Type 0) → Halt → Type 0
+HaltsWhere limits files shape left reads writes halt.Memory = ⊤
+HaltsWhere limits files shape left reads writes halt.Read = reads
+HaltsWhere limits files shape left reads writes halt.Write = writes
+HaltsWhere limits files shape left reads writes halt.NoFile = OneAbsent files shape
+HaltsWhere limits files shape left reads writes halt.TooMuch = OneLonger files shape left limits.input_bytes
+HaltsWhere limits files shape left reads writes (halt.BadGraph bad) = IsBadGraph limits files shape bad
+HaltsWhere limits files shape left reads writes (halt.BadPatterns bad) = IsBadPatterns limits files shape bad

@@ -1,4 +1,12 @@
 //! The program's one call: from the words of the command line to the exit status.
+//!
+//! - `top`: `run`, the one call; `words`: the shapes of the command line; `status`: how a run ends.
+//! - `watch`: the shape `watch GRAPH PATTERNS`; `inputs`: its two files; `updates`: its updates, read piece by piece; `session`: one
+//!   line of them; `embeddings`: what it changed; `report`: the blocks that are gathered and put.
+//! - `save`: the shape `save GRAPH`.
+//! - `files`: a file, read piece by piece and line by line; `take`: what it is read into; `graph_file`, `store_file` and
+//!   `pattern_file`: a graph, a store, or a reader of patterns.
+//! - `piece`: the buffer that pieces are read into; `stop` and `halt`: why the reading of a file, or a run, ends early.
 #![tactic(auto)]
 
 mod embeddings;
@@ -9,14 +17,19 @@ mod inputs;
 mod pattern_file;
 mod piece;
 mod report;
+mod save;
+#[cfg(test)]
+mod save_tests;
 mod session;
 mod status;
 mod stop;
+mod store_file;
 mod take;
 #[cfg(test)]
 mod tests;
 mod top;
 mod updates;
+mod watch;
 mod words;
 
 pub use status::Status;

@@ -29,10 +29,10 @@ const POSTS: &[u8] =
 
 /// How a run ended, and what it wrote.
 #[derive(Drop)]
-struct Watched {
-    status: Status,
-    out: MemSink,
-    err: MemSink,
+pub struct Outcome {
+    pub status: Status,
+    pub out: MemSink,
+    pub err: MemSink,
 }
 
 fn words_of(alloc: Global, words: &[&str]) -> Result<Vec<String>, AllocError> {
@@ -52,14 +52,14 @@ fn shelf_of(alloc: Global, graph: &[u8], patterns: &[u8]) -> Result<MemShelf, Al
 }
 
 /// Runs with these words, with room for so many bytes of output.
-fn run_with(
+pub fn run_with(
     alloc: Global,
     words: &[&str],
     limits: &Limits,
     shelf: &mut MemShelf,
     updates: &mut MemSource,
     room: usize,
-) -> Result<Watched, AllocError>
+) -> Result<Outcome, AllocError>
     requires { IsFair limits.now }
 {
     let words = words_of(alloc, words)?;
@@ -69,7 +69,7 @@ fn run_with(
     let ended = run(
         alloc, &words, limits, shelf, updates, &mut out, &mut err, &mut steps,
     );
-    Ok(Watched {
+    Ok(Outcome {
         status: ended.status,
         out,
         err,
@@ -83,7 +83,7 @@ fn watched_under(
     graph: &[u8],
     patterns: &[u8],
     updates: &[u8],
-) -> Result<Watched, AllocError>
+) -> Result<Outcome, AllocError>
     requires { IsFair limits.now }
 {
     let mut shelf = shelf_of(alloc, graph, patterns)?;
@@ -107,7 +107,7 @@ fn watched_in_pieces(
     cuts: &[u64],
     failing: &[u64],
     room: usize,
-) -> Result<Watched, AllocError> {
+) -> Result<Outcome, AllocError> {
     let mut shelf = shelf_of(alloc, graph, patterns)?;
     let mut updates = MemSource::new(alloc, updates, cuts, failing)?;
     run_with(
@@ -297,7 +297,15 @@ fn any_pieces(rt: HostRuntime) -> Result<(), Fail> {
 #[test]
 fn words_of_no_shape(rt: HostRuntime) -> Result<(), Fail> {
     let alloc = rt.alloc();
-    let rows: [&[&str]; 4] = [&[], &["watch", "g"], &["demo", "x"], &["match", "g", "p"]];
+    let rows: [&[&str]; 7] = [
+        &[],
+        &["watch", "g"],
+        &["demo", "x"],
+        &["match", "g", "p"],
+        &["save"],
+        &["save", "g", "p"],
+        &["Save", "g"],
+    ];
     for words in rows {
         let words = words_of(alloc, words)?;
         let mut shelf = shelf_of(alloc, GRAPH, PATTERN)?;

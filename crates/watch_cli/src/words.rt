@@ -1,23 +1,27 @@
 //! The words of the command line.
 ghost use Rattle.std.specs.Prelude.{◌≡◌, MatchOption, None, Some};
-ghost use Rattle.watch_cli.specs.Words.{watched, texts};
+ghost use Rattle.watch_cli.specs.Words.{shape_of, seen_shape, texts};
 
-/// The names of the graph file and of the pattern file.
+/// What the words ask for, with the names of the files.
 #[derive(Clone, Copy)]
-pub struct Names<'a> {
-    pub graph: &'a str,
-    pub patterns: &'a str,
+pub enum Shape<'a> {
+    /// `watch GRAPH PATTERNS`: what each update changes.
+    Watch { graph: &'a str, patterns: &'a str },
+    /// `save GRAPH`: the text of the graph.
+    Save { graph: &'a str },
 }
 
-/// The names, where the words are `watch GRAPH PATTERNS`.
-pub fn names_of(words: &[String]) -> Option<Names<'_>>
-    ensures { MatchOption result (watched (texts words.now) ≡ None)
-        (λ names. watched (texts words.now) ≡ Some (record { graph = names.graph.now; patterns = names.patterns.now })) }
+/// The shape of the words, if they have one.
+pub fn parse_shape(words: &[String]) -> Option<Shape<'_>>
+    ensures { MatchOption result (shape_of (texts words.now) ≡ None) (λ shape. shape_of (texts words.now) ≡ Some (seen_shape shape)) }
 {
     match words {
-        [command, graph, patterns] if command.as_str() == "watch" => Some(Names {
+        [command, graph, patterns] if command.as_str() == "watch" => Some(Shape::Watch {
             graph: graph.as_str(),
             patterns: patterns.as_str(),
+        }),
+        [command, graph] if command.as_str() == "save" => Some(Shape::Save {
+            graph: graph.as_str(),
         }),
         _ => None,
     }

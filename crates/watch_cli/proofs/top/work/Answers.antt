@@ -1,15 +1,4 @@
-use Rattle.std.proofs.lemmas.Result.{on_ok_weaker}
-use Rattle.watch_cli.proofs.TopLemmas.{WritesAll-from, WritesFront-either, HasFile-same}
 use Rattle.watch_cli.proofs.top.work.Goals as goal
 
-pub returns-clause-ok : goal.returns-clause-ok
-returns-clause-ok g c =
-    on_ok_weaker c.follow.result
-    (λ put. WritesAll-from c.args.limits.now c.in-Ok.graph.limits (g.F.Shelf.files c.args.shelf.now) (record { graph = c.args.graph_name.now; patterns = c.args.patterns_name.now }) _ _ _ c.in-Ok.graph.graph c.in-Ok-read_patterns.patterns c.new-session.result
-    c.new-session.ensures c.in-Ok.ensures.ok (HasFile-same _ _ c.args.patterns_name.now _ c.in-Ok.ensures.same c.in-Ok-read_patterns.ensures.ok) put)
-    c.follow.ensures.ok
-
-pub returns-clause-front : goal.returns-clause-front
-returns-clause-front g c =
-    WritesFront-either c.follow.result c.args.limits.now c.in-Ok.graph.limits (g.F.Shelf.files c.args.shelf.now) (record { graph = c.args.graph_name.now; patterns = c.args.patterns_name.now }) _ _ _ c.in-Ok.graph.graph c.in-Ok-read_patterns.patterns c.new-session.result
-    c.new-session.ensures c.in-Ok.ensures.ok (HasFile-same _ _ c.args.patterns_name.now _ c.in-Ok.ensures.same c.in-Ok-read_patterns.ensures.ok) c.follow.ensures.ok c.follow.ensures.err
+pub returns-in-Save-clause-halt : goal.returns-in-Save-clause-halt
+returns-in-Save-clause-halt g c = rw c.in-Save.is (c.save_graph.ensures.halt (g.S.Source.left c.args.updates.now))

@@ -1,0 +1,65 @@
+//! `save`: the graph file is read into a store, and the text of its graph is put.
+ghost use Rattle.std.specs.Prelude.{◌≡◌, ◌≤◌, None, List, ℕ, Option, OnOk, OnErr, IfErr};
+ghost use Rattle.std.specs.Io.KnownBytes.{Appends};
+ghost use Rattle.flux_outside.specs.Causes.{Rose};
+ghost use Rattle.flux_outside.specs.Told.{AppendsFront};
+ghost use Rattle.flux_model.specs.Graph.{empty_graph};
+ghost use Rattle.flux_model.specs.GraphText.{graph_text};
+ghost use Rattle.flux_model.specs.Limits.{IsFair};
+ghost use Rattle.watch_cli.specs.Words.{Save};
+ghost use Rattle.watch_cli.specs.Due.{WritesAll, WritesFront, HasAccepted};
+ghost use Rattle.watch_cli.specs.Halts.{WriteHalts, HaltsWhere};
+
+use crate::halt::Halt;
+use crate::report::put_report;
+use crate::store_file::read_store;
+use flux_model::{Ledger, Limits, Steps};
+use flux_outside::{Shelf, Sink};
+use label_graph::{KeepGraph, ReadGraph};
+use snapshot_text::write_graph;
+use std::alloc::Global;
+
+/// Reads the graph file of this name into an empty store, and puts the text of its graph. It reads no updates, whatever is left of them.
+pub fn save_graph<F: Shelf, G: KeepGraph + ReadGraph<L>, W: Sink, L: Ledger>(
+    alloc: Global,
+    limits: &Limits,
+    name: &str,
+    empty: G,
+    shelf: &mut F,
+    out: &mut W,
+    steps: &mut Steps<L>,
+) -> Result<(), Halt>
+    requires fair { IsFair limits.now }
+    requires limits { G.limits empty ≡ limits.now }
+    requires empty { G.graph empty ≡ empty_graph }
+    ensures accepted { OnOk result (HasAccepted limits.now (F.files shelf.old) (Save name.now)) }
+    ensures ok { OnOk result (WritesAll limits.now (F.files shelf.old) (Save name.now) None (W.taken out.old) (W.taken out.new)) }
+    ensures front { WritesFront limits.now (F.files shelf.old) (Save name.now) None (W.taken out.old) (W.taken out.new) }
+    ensures halt { (left : Option (List ℕ)) → IfErr result (HaltsWhere limits.now (F.files shelf.old) (Save name.now) left
+        (Rose (F.faults shelf.old) (F.faults shelf.new)) (Rose (W.faults out.old) (W.faults out.new))) }
+{
+    let graph = match read_store(alloc, limits, shelf, name, empty) {
+        Ok(graph) => graph,
+        Err(stop) => return Err(Halt::of_graph(stop)),
+    };
+    put_graph(alloc, &graph, out, steps)
+}
+
+/// Puts the text of a graph, which is made whole before.
+fn put_graph<G: ReadGraph<L>, W: Sink, L: Ledger>(
+    alloc: Global,
+    graph: &G,
+    out: &mut W,
+    steps: &mut Steps<L>,
+) -> Result<(), Halt>
+    ensures ok { OnOk result (Appends (W.taken out.old) (W.taken out.new) (graph_text (G.graph graph.now))) }
+    ensures err { OnErr result (AppendsFront (W.taken out.old) (W.taken out.new) (graph_text (G.graph graph.now))) }
+    ensures later { W.faults out.old ≤ W.faults out.new }
+    ensures halt { IfErr result (WriteHalts (W.faults out.old) (W.faults out.new)) }
+{
+    let mut text = Vec::new(alloc);
+    let Ok(()) = write_graph(alloc, graph, &mut text, steps) else {
+        return Err(Halt::Memory);
+    };
+    put_report(&mut text, out)
+}
