@@ -1,5 +1,5 @@
 //! `Map`, `Maps`, `Delta` and `Deltas`: maps of a pattern's vertices to ids, and which of them an update gained and lost.
-ghost use Rattle.std.specs.Prelude.{◌≡◌, [], ◌∷◌, ◌++◌, ◌<◌, length, OnOk, OnErr, slice_index, slice_get};
+ghost use Rattle.std.specs.Prelude.{◌≡◌, [], ◌∷◌, ◌++◌, ◌<◌, length, IfOk, OnOk, OnErr, slice_index, slice_get};
 ghost use Rattle.std.specs.Prelude.{ℕ, nat_eq, refl, IsPermutation, IsSorted, slice_index_or};
 ghost use Rattle.std.specs.Ordering.{nat_cmp, as_partial_cmp};
 ghost use Rattle.std.specs.Cmp.{partial_equiv_from_equiv, partial_order_from_agreeing_total, unsigned_ties};
@@ -35,6 +35,15 @@ impl Map {
         Map {
             ids: SmallVec::new(alloc),
         }
+    }
+
+    /// The list of these ids.
+    pub fn from_ids(alloc: Global, ids: &[u32]) -> Result<Map, AllocError>
+        ensures { IfOk result (λ map. map ≡ ids.now) }
+    {
+        let mut list = SmallVec::new(alloc);
+        list.extend_from_slice(ids)?;
+        Ok(Map { ids: list })
     }
 
     /// Appends an id at the end. At `AllocError` the list is as before.
@@ -133,6 +142,15 @@ impl Maps {
     {
         self.maps.push(m)?;
         Ok(())
+    }
+
+    /// Appends the map of these ids at the end. At `AllocError` the list is as before.
+    pub fn add_ids(&mut self, ids: &[u32]) -> Result<(), AllocError>
+        ensures ok { OnOk result (self.new ≡ self.old ++ ids.now ∷ []) }
+        ensures err { OnErr result (self.new ≡ self.old) }
+    {
+        let map = Map::from_ids(*self.maps.allocator(), ids)?;
+        self.add(map)
     }
 
     /// How many maps there are.

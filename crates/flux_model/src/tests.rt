@@ -125,6 +125,15 @@ fn labels_are_kept_once_and_in_order(rt: HostRuntime) -> Result<(), Fail> {
 }
 
 #[test]
+fn ids_make_maps(rt: HostRuntime) -> Result<(), Fail> {
+    let mut maps = Maps::new(rt.alloc());
+    maps.add_ids(&[3, 1])?;
+    maps.add(Map::from_ids(rt.alloc(), &[4294967295])?)?;
+    assert_maps(&rt, &maps, &[&[3, 1], &[4294967295]]);
+    Ok(())
+}
+
+#[test]
 fn maps_are_sorted(rt: HostRuntime) -> Result<(), Fail> {
     let mut maps = maps_of(rt.alloc(), &[&[2], &[1, 9, 0], &[1, 9], &[1, 9]])?;
     assert_maps(&rt, &maps, &[&[2], &[1, 9, 0], &[1, 9], &[1, 9]]);
