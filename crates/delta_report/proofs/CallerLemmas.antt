@@ -12,10 +12,9 @@ use Rattle.flux_model.specs.Pattern.{PatternGraph}
 use Rattle.flux_model.specs.Embedding.{embeddings}
 use Rattle.flux_model.specs.Change.{gained, lost, same_map}
 use Rattle.flux_model.specs.Report.{change_lines}
-use Rattle.flux_model.specs.Deltas.{HasMap, IsReordered, IsInOrder}
+use Rattle.flux_model.specs.Deltas.{HasMap, IsReordered, IsInOrder, with_delta, change_deltas}
 use Rattle.flux_model.specs.declared.maps.Delta.{Delta}
 use Rattle.delta_report.specs.Block.{HavePatterns, delta_lines, name_at, deltas_text}
-use Rattle.delta_report.specs.ChangeDeltas.{with_delta, change_deltas}
 use Rattle.delta_report.specs.Sorted.{AreSorted}
 use Rattle.delta_report.proofs.BlockLemmas.{name_at-get}
 use Rattle.delta_report.proofs.EmbeddingsLemmas.{kept-sorted}

@@ -10,10 +10,10 @@ use Rattle.std.specs.List.Sorted.{IsSorted, IsPermutation}
 use Rattle.std.proofs.lemmas.Cmp.{ranked}
 use Rattle.std.proofs.lemmas.List.Sums.{sum_by-cons}
 use Rattle.std.proofs.lemmas.List.Sorted.{sorted_far, ranks_by, sum_by-IsPermutation}
-use Rattle.flux_model.specs.Deltas.{IsReordered, IsInOrder}
+use Rattle.flux_model.specs.Deltas.{IsReordered, IsInOrder, AreReordered}
 use Rattle.flux_model.specs.declared.maps.Delta.{Delta}
 use Rattle.delta_report.specs.Block.{HavePatterns}
-use Rattle.delta_report.specs.Sorted.{IsSortedDelta, AreReordered, AreSorted}
+use Rattle.delta_report.specs.Sorted.{IsSortedDelta, AreSorted}
 
 module _ {X : Type 0} (R : X → X → Ordering) (o : IsTotalOrder R) (same : (x y : X) → R x y ≡ Equal → x ≡ y) where
   -- 1 where w is below y

@@ -9,10 +9,6 @@ pub record IsSortedDelta (before after : Delta) : Type 0 where
   pub same : IsReordered before after
   pub order : IsInOrder after
 
--- as many deltas, each with the same maps in some order
-abbrev pub AreReordered : List Delta → List Delta → Type 0
-AreReordered before after = AllZip IsReordered before after
-
 -- as many deltas, each with the same maps in ascending order
 abbrev pub AreSorted : List Delta → List Delta → Type 0
 AreSorted before after = AllZip IsSortedDelta before after

@@ -6,7 +6,8 @@ ghost use Rattle.flux_model.specs.Report.{map_line};
 ghost use Rattle.flux_model.specs.declared.maps.Delta.{Delta};
 ghost use Rattle.delta_report.specs.Words.{spaced};
 ghost use Rattle.delta_report.specs.Block.{delta_lines, deltas_text, HavePatterns};
-ghost use Rattle.delta_report.specs.Sorted.{AreReordered, AreSorted};
+ghost use Rattle.delta_report.specs.Sorted.{AreSorted};
+ghost use Rattle.flux_model.specs.Deltas.{AreReordered};
 
 use crate::words::{end_line, start_line, write_number, write_word};
 use flux_model::{Delta, Deltas, Map, Maps, Patterns};

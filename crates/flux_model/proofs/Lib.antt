@@ -6,3 +6,4 @@ pub mod CornerCases
 pub mod FileReadingLemmas
 pub mod ReportLemmas
 pub mod TreeRows
+pub mod GrownLemmas

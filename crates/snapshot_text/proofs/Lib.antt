@@ -1,4 +1,3 @@
-pub mod GrownLemmas
 pub mod WordsLemmas
 pub mod OrderLemmas
 pub mod SortedLemmas

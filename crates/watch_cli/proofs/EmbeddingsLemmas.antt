@@ -8,7 +8,7 @@ use Rattle.flux_model.specs.Pattern.{PatternGraph}
 use Rattle.flux_model.specs.Embedding.{embeddings}
 use Rattle.flux_model.specs.Change.{without}
 use Rattle.flux_model.specs.declared.maps.Delta.{Delta}
-use Rattle.delta_report.specs.ChangeDeltas.{with_delta, change_deltas}
+use Rattle.flux_model.specs.Deltas.{with_delta, change_deltas}
 use Rattle.watch_cli.specs.Deltas.{embeddings_of, deltas_from}
 
 module _ {X : Type 0} where

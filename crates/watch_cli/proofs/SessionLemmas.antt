@@ -9,10 +9,10 @@ use Rattle.flux_model.specs.declared.said.Said.TheVariants.{Says}
 use Rattle.flux_model.specs.declared.graph.Update.{Update}
 use Rattle.flux_model.specs.declared.limits.Limits.{Limits}
 use Rattle.delta_report.specs.Block.{HavePatterns, deltas_text}
-use Rattle.delta_report.specs.ChangeDeltas.{change_deltas}
+use Rattle.flux_model.specs.Deltas.{change_deltas}
 use Rattle.delta_report.specs.Sorted.{AreSorted}
 use Rattle.delta_report.proofs.CallerLemmas.{deltas_text-change_deltas, change_deltas-have_patterns, change_deltas-sorted}
-use Rattle.delta_report.proofs.GrownLemmas.{grew_same}
+use Rattle.flux_model.proofs.GrownLemmas.{grew_same}
 
 pub have_patterns : (g h : Graph) (qs : List PatternGraph) (ds : List Delta) → ds ≡ change_deltas 0 g h qs → HavePatterns (length qs) ds
 have_patterns g h qs ds is = subst (HavePatterns (length qs)) (sym is) (change_deltas-have_patterns g h qs)

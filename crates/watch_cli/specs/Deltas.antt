@@ -5,7 +5,7 @@ use Rattle.flux_model.specs.Pattern.{PatternGraph}
 use Rattle.flux_model.specs.Embedding.{embeddings}
 use Rattle.flux_model.specs.Change.{without}
 use Rattle.flux_model.specs.declared.maps.Delta.{Delta}
-use Rattle.delta_report.specs.ChangeDeltas.{with_delta}
+use Rattle.flux_model.specs.Deltas.{with_delta}
 
 -- the embeddings of each pattern
 abbrev pub embeddings_of : Graph → List PatternGraph → List (List (List ℕ))

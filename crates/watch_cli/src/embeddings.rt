@@ -2,8 +2,7 @@
 ghost use Rattle.std.specs.Prelude.{◌≡◌, [], ◌∷◌, ◌++◌, length, nat_lt, IfOk, OnOk};
 ghost use Rattle.std.specs.List.{list_any};
 ghost use Rattle.flux_model.specs.Change.{same_map, without};
-ghost use Rattle.flux_model.specs.Deltas.{IsAbove};
-ghost use Rattle.delta_report.specs.ChangeDeltas.{with_delta};
+ghost use Rattle.flux_model.specs.Deltas.{IsAbove, with_delta};
 ghost use Rattle.watch_cli.specs.Deltas.{embeddings_of, deltas_from};
 
 use flux_model::{Delta, Deltas, Map, Maps, Patterns};

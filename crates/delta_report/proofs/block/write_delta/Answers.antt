@@ -1,5 +1,5 @@
 use Rattle.std.proofs.lemmas.Result.{on_err_weaker}
-use Rattle.delta_report.proofs.GrownLemmas.{grew_later}
+use Rattle.flux_model.proofs.GrownLemmas.{grew_later}
 use Rattle.delta_report.proofs.block.write_delta.Goals as goal
 
 pub returns-clause-err : goal.returns-clause-err

@@ -4,7 +4,7 @@ use Rattle.flux_model.specs.Grown.{GrewByFront}
 use Rattle.flux_model.specs.declared.maps.Delta.{Delta}
 use Rattle.delta_report.specs.Block.{deltas_text}
 use Rattle.delta_report.specs.Sorted.{AreSorted}
-use Rattle.delta_report.proofs.GrownLemmas.{on_ok}
+use Rattle.flux_model.proofs.GrownLemmas.{on_ok}
 use Rattle.delta_report.proofs.SortedLemmas.{AreReordered-from_places, AreSorted-from_places, AreSorted-unique}
 use Rattle.delta_report.proofs.block.write_deltas.Goals as goal
 

@@ -1,7 +1,7 @@
 use Rattle.std.proofs.Common.{sym, ap, ◌∙◌, ◌++◌}
 use Rattle.flux_model.specs.declared.maps.Delta.{Delta}
 use Rattle.delta_report.specs.Block.{delta_lines, name_at}
-use Rattle.delta_report.proofs.GrownLemmas.{on_err, grew_same, flat_map_next, grew_at}
+use Rattle.flux_model.proofs.GrownLemmas.{on_err, grew_same, flat_map_next, grew_at}
 use Rattle.delta_report.proofs.BlockLemmas.{delta_lines-named}
 use Rattle.delta_report.proofs.block.write_each.Goals as goal
 

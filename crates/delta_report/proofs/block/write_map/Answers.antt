@@ -1,6 +1,6 @@
 use Rattle.std.proofs.Common.{◌≡◌, [], ◌∷◌}
 use Rattle.std.proofs.lemmas.Result.{on_ok_weaker, on_err_weaker}
-use Rattle.delta_report.proofs.GrownLemmas.{on_err, grew_none, grew_same, grew_first, grew_later}
+use Rattle.flux_model.proofs.GrownLemmas.{on_err, grew_none, grew_same, grew_first, grew_later}
 use Rattle.delta_report.proofs.WordsLemmas.{map_line-parts, map_line-written}
 use Rattle.delta_report.proofs.block.write_map.Goals as goal
 

@@ -1,6 +1,6 @@
 use Rattle.std.proofs.Common.{[], ◌∷◌}
 use Rattle.flux_model.specs.Report.{map_line}
-use Rattle.delta_report.proofs.GrownLemmas.{on_err, flat_map_next, grew_at}
+use Rattle.flux_model.proofs.GrownLemmas.{on_err, flat_map_next, grew_at}
 use Rattle.delta_report.proofs.block.write_maps.Goals as goal
 
 pub returns-in_err-write_map-clause-err : goal.returns-in_err-write_map-clause-err

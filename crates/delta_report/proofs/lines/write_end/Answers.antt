@@ -1,6 +1,6 @@
 use Rattle.std.proofs.Common.{codes, [], ◌∷◌}
 use Rattle.std.specs.Fmt.{decimal}
-use Rattle.delta_report.proofs.GrownLemmas.{on_err, grew_same, grew_first, grew_later}
+use Rattle.flux_model.proofs.GrownLemmas.{on_err, grew_same, grew_first, grew_later}
 use Rattle.delta_report.proofs.WordsLemmas.{text_line-start}
 use Rattle.delta_report.proofs.lines.write_end.Goals as goal
 

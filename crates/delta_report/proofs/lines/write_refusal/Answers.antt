@@ -1,7 +1,7 @@
 use Rattle.std.proofs.Common.{codes, [], ◌∷◌}
 use Rattle.std.specs.Fmt.{decimal}
 use Rattle.flux_model.specs.Code.{code_word}
-use Rattle.delta_report.proofs.GrownLemmas.{on_err, grew_same, grew_first}
+use Rattle.flux_model.proofs.GrownLemmas.{on_err, grew_same, grew_first}
 use Rattle.delta_report.proofs.WordsLemmas.{text_line-start}
 use Rattle.delta_report.proofs.lines.write_refusal.Goals as goal
 

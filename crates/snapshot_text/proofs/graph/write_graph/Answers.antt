@@ -1,5 +1,5 @@
 use Rattle.std.proofs.lemmas.Result.{on_err_weaker}
-use Rattle.snapshot_text.proofs.GrownLemmas.{on_err, grew_first, grew_later}
+use Rattle.flux_model.proofs.GrownLemmas.{on_err, grew_first, grew_later}
 use Rattle.snapshot_text.proofs.graph.write_graph.Goals as goal
 
 pub returns-in_err-write_vertices-clause-err : goal.returns-in_err-write_vertices-clause-err

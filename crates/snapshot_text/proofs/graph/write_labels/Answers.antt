@@ -1,5 +1,5 @@
 use Rattle.snapshot_text.specs.Words.{spaced}
-use Rattle.snapshot_text.proofs.GrownLemmas.{on_err, flat_map_next, grew_at}
+use Rattle.flux_model.proofs.GrownLemmas.{on_err, flat_map_next, grew_at}
 use Rattle.snapshot_text.proofs.graph.write_labels.Goals as goal
 
 pub returns-in_err-write_word-clause-err : goal.returns-in_err-write_word-clause-err

@@ -1,6 +1,6 @@
 use Rattle.std.proofs.Common.{◌≡◌}
 use Rattle.std.proofs.lemmas.Result.{on_ok_weaker, on_err_weaker}
-use Rattle.snapshot_text.proofs.GrownLemmas.{on_err, grew_none, grew_same, grew_first, grew_later}
+use Rattle.flux_model.proofs.GrownLemmas.{on_err, grew_none, grew_same, grew_first, grew_later}
 use Rattle.snapshot_text.proofs.WordsLemmas.{vertex_line-parts, vertex_line-written}
 use Rattle.snapshot_text.proofs.graph.write_vertex.Goals as goal
 

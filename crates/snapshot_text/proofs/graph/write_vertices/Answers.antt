@@ -1,5 +1,5 @@
 use Rattle.flux_model.specs.GraphText.{vertex_line}
-use Rattle.snapshot_text.proofs.GrownLemmas.{on_err, flat_map_next, grew_at}
+use Rattle.flux_model.proofs.GrownLemmas.{on_err, flat_map_next, grew_at}
 use Rattle.snapshot_text.proofs.VertexLemmas.{id_at, has_vertex-at, vertex-at}
 use Rattle.snapshot_text.proofs.graph.write_vertices.Goals as goal
 

@@ -1,7 +1,7 @@
 use Rattle.std.proofs.Common.{sym, ap}
 use Rattle.snapshot_text.specs.Words.{spaced}
 use Rattle.snapshot_text.specs.Row.{edge_triple}
-use Rattle.snapshot_text.proofs.GrownLemmas.{on_err, grew_same, grew_first, grew_later}
+use Rattle.flux_model.proofs.GrownLemmas.{on_err, grew_same, grew_first, grew_later}
 use Rattle.snapshot_text.proofs.WordsLemmas.{triple_line-parts}
 use Rattle.snapshot_text.proofs.row.write_edge.Goals as goal
 

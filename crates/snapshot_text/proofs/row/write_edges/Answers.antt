@@ -1,7 +1,7 @@
 use Rattle.std.proofs.Common.{map}
 use Rattle.flux_model.specs.GraphText.{triple_line}
 use Rattle.snapshot_text.specs.Row.{edge_triple}
-use Rattle.snapshot_text.proofs.GrownLemmas.{on_err, flat_map_next, grew_at}
+use Rattle.flux_model.proofs.GrownLemmas.{on_err, flat_map_next, grew_at}
 use Rattle.snapshot_text.proofs.RowLemmas.{triple_at}
 use Rattle.snapshot_text.proofs.row.write_edges.Goals as goal
 

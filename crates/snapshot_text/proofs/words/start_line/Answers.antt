@@ -1,6 +1,6 @@
 use Rattle.std.proofs.Common.{[], ◌∷◌}
 use Rattle.std.proofs.lemmas.Result.{on_err_weaker}
-use Rattle.snapshot_text.proofs.GrownLemmas.{grew_later}
+use Rattle.flux_model.proofs.GrownLemmas.{grew_later}
 use Rattle.snapshot_text.proofs.words.start_line.Goals as goal
 
 pub returns-clause-err : goal.returns-clause-err
