@@ -6,4 +6,5 @@ pub mod CornerCases
 pub mod FileReadingLemmas
 pub mod ReportLemmas
 pub mod TreeRows
+pub mod VerdictRows
 pub mod GrownLemmas

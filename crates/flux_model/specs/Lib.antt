@@ -15,6 +15,7 @@ pub mod PatternFile
 pub mod Embedding
 pub mod Change
 pub mod Report
+pub mod Verdict
 pub mod Deltas
 pub mod Grown
 pub mod Tree
