@@ -17,5 +17,5 @@ mod search;
 #[cfg(test)]
 mod tests;
 
-pub use found::{Found, Gathered};
+pub use found::Found;
 pub use search::all;

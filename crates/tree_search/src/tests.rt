@@ -2,7 +2,7 @@
 ghost use Rattle.std.specs.Prelude.{◌≡◌, codes, IfOk};
 ghost use Rattle.flux_model.specs.Tree.{BelongsTo};
 
-use crate::{Gathered, all};
+use crate::all;
 use dcg_transition::build;
 use flux_model::{
     Cards, Labels, Limits, Map, Maps, Mode, Pattern, PatternEdge, Steps, Tally, Text, Triple,
@@ -92,9 +92,8 @@ fn found_in(
     let graph = graph_of(rt, alloc, triples)?;
     let mut steps = Steps::new(Tally::new());
     let dcg = build(alloc, pattern, &tree, &graph, &mut steps)?;
-    let mut found = Gathered::new(alloc);
-    all(alloc, pattern, &tree, &dcg, &graph, &mut found, &mut steps)?;
-    let mut maps = found.into_maps();
+    let mut maps = Maps::new(alloc);
+    all(alloc, pattern, &tree, &dcg, &graph, &mut maps, &mut steps)?;
     maps.sort()?;
     Ok(maps)
 }
