@@ -24,6 +24,7 @@ pub mod TestLemmas
 pub mod TextsLemmas
 pub mod TouchedLemmas
 pub mod UndoLemmas
+pub mod VerdictsLemmas
 pub mod VerticesLemmas
 pub mod WithinLemmas
 pub mod WordsLemmas

@@ -17,7 +17,7 @@ use Rattle.flux_laws.specs.ReportsLaws.{updates_in, graph_after_all, BlocksInPar
 use Rattle.flux_laws.proofs.LinesLemmas.{give_back, no_end, unique}
 
 -- the cut of two parts
-cut_in_parts : (first second : List ℕ) → open_end first ≡ []
+pub cut_in_parts : (first second : List ℕ) → open_end first ≡ []
     → (all_but_last (parts (first ++ second)) ≡ all_but_last (parts first) ++ all_but_last (parts second)) × (open_end (first ++ second) ≡ open_end second)
 cut_in_parts first second none =
     let xs : List (List ℕ) = all_but_last (parts first) in
@@ -43,7 +43,7 @@ lines-append n first second none =
     ∙ append_assoc (whole n first) (whole n second) (last_line n (open_end second))
     ∙ ap (λ ls. ls ++ lines n second) (sym last)
 
-blocks-append : (limits : Limits) (patterns : List PatternGraph) (g : Graph) (xs ys : List (Said Update)) (k : ℕ)
+pub blocks-append : (limits : Limits) (patterns : List PatternGraph) (g : Graph) (xs ys : List (Said Update)) (k : ℕ)
     → blocks limits patterns g (xs ++ ys) k ≡ blocks limits patterns g xs k ++ blocks limits patterns (graph_after_all limits g xs) ys (length xs + k)
 blocks-append limits patterns g [] ys k = ap (blocks limits patterns g ys) (omega arith)
 blocks-append limits patterns g (x ∷ xs) ys k =

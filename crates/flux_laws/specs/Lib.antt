@@ -7,5 +7,6 @@ pub mod PatternsLaws
 pub mod ReportsLaws
 pub mod SetsLaws
 pub mod TextsLaws
+pub mod VerdictsLaws
 pub mod VerticesLaws
 pub mod WordsLaws

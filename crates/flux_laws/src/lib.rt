@@ -10,6 +10,7 @@
 //! - `changes` and `vertices`: what an accepted update makes a pattern gain and lose.
 //! - `texts`: the text of a graph makes the graph again.
 //! - `reports`: how the report of updates that come in two parts is put together.
+//! - `verdicts`: a run over a graph that was saved, over a file that is refused in its front, and where a read fails.
 #![tactic(auto)]
 
 pub mod changes;
@@ -21,5 +22,6 @@ pub mod patterns;
 pub mod reports;
 pub mod sets;
 pub mod texts;
+pub mod verdicts;
 pub mod vertices;
 pub mod words;
