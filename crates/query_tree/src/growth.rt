@@ -72,12 +72,14 @@ impl Growth {
         self.links[u]
     }
 
-    /// Whether vertex `u` hangs from vertex `parent`.
+    /// Whether vertex `u` hangs from vertex `parent`, which no number beyond the vertices does.
     pub fn is_child(&self, parent: usize, u: usize) -> bool
-        requires { u < length self.now.links }
         ensures { result ≡ is_child self.now parent u }
     {
-        self.links[u].is_some_and(|link| link.parent == parent)
+        match self.links.get(u) {
+            Some(Some(link)) => link.parent == parent,
+            _ => false,
+        }
     }
 
     /// Whether a link names edge `i`.

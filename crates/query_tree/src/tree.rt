@@ -1,7 +1,7 @@
 //! `QueryTree`: the spanning tree of a pattern.
 ghost use Rattle.std.specs.Prelude.{◌≡◌, ◌≢◌, ◌<◌, ◌↔◌, Some, None, IfOk, MatchOption, length, slice_get, slice_index};
 ghost use Rattle.flux_model.specs.Pattern.{HasEnds, vertex_count};
-ghost use Rattle.flux_model.specs.Tree.{link_at, children, non_tree, root_of, tree_for, IsTree, BelongsTo};
+ghost use Rattle.flux_model.specs.Tree.{link_at, is_child, children, non_tree, root_of, tree_for, IsTree, BelongsTo};
 ghost use Rattle.query_tree.specs.Choice.{lower_end};
 
 use crate::growth::Growth;
@@ -72,6 +72,13 @@ impl QueryTree {
         ensures root { (result ≡ None) ↔ (u ≡ self.now.root) }
     {
         self.grown.link(u)
+    }
+
+    /// Whether vertex `u` hangs from vertex `parent`; a number that is no vertex hangs from none.
+    pub fn is_child(&self, parent: usize, u: usize) -> bool
+        ensures { result ≡ is_child self.now parent u }
+    {
+        self.grown.is_child(parent, u)
     }
 
     /// The vertices that hang from vertex `u`, ascending; `u` has to be below `vertex_count`.
