@@ -3,12 +3,12 @@ ghost use Rattle.std.specs.Prelude.{◌≡◌, ◌<◌, ℕ, List, [], ◌∷◌
 ghost use Rattle.std.specs.List.{range_with_len};
 ghost use Rattle.flux_model.specs.Tree.{QueryTree as Tree, is_child, least};
 ghost use Rattle.flux_model.specs.Order.{are_neighbours};
-ghost use Rattle.query_tree.specs.Choice.{better};
 ghost use Rattle.match_order.specs.Marks.{AreMarks, HasCount, is_open};
 ghost use Rattle.match_order.specs.Steps.{next_place};
 
 use crate::place::Place;
 use query_tree::QueryTree;
+use query_tree::numbers::least_by;
 use std::alloc::{AllocError, Global};
 
 /// For each vertex of a tree whether it is placed, and the latest placed vertex that is its neighbour.
@@ -51,24 +51,9 @@ impl Frontier {
         ensures next { (t : Tree) (before : List ℕ) → AreMarks t before self.now → result ≡ next_place t live.now before }
         ensures within { IfSome result (λ place. place.vertex < length live.now) }
     {
-        let vertex = self.least_open(live)?;
+        let vertex = least_by(live, |u| self.is_open(u))?;
         let anchor = self.anchors[vertex].unwrap();
         Some(Place { vertex, anchor })
-    }
-
-    /// Of the open vertices the one with the least number in `live`, of equals the lowest.
-    fn least_open(&self, live: &[u64]) -> Option<usize>
-        requires { HasCount (length live.now) self.now }
-        ensures least { result ≡ least (slice_index live.now) (filter (is_open self.now) (range_with_len 0 (length live.now))) }
-        ensures within { IfSome result (λ u. u < length live.now) }
-    {
-        let mut least = None;
-        for u in 0..live.len() {
-            if self.is_open(u) {
-                least = Some(better(live, least, u));
-            }
-        }
-        least
     }
 
     /// Whether vertex `u` has an anchor and is not placed.
@@ -81,32 +66,9 @@ impl Frontier {
     }
 }
 
-/// Of `u` and the best before it, the one that has the lower number, of equals the one before.
-fn better(live: &[u64], best: Option<usize>, u: usize) -> usize
-    requires this { u < length live.now }
-    requires best { IfSome best (λ b. b < length live.now) }
-    ensures better { result ≡ better (slice_index live.now) best u }
-    ensures within { result < length live.now }
-{
-    match best {
-        Some(b) if live[b] <= live[u] => b,
-        _ => u,
-    }
-}
-
 /// Whether one of the vertices hangs from the other.
 fn are_neighbours(tree: &QueryTree, u: usize, w: usize) -> bool
-    requires first { u < length tree.now.links }
-    requires second { w < length tree.now.links }
     ensures { result ≡ are_neighbours tree.now u w }
 {
-    is_child(tree, u, w) || is_child(tree, w, u)
-}
-
-/// Whether vertex `u` hangs from vertex `parent`.
-fn is_child(tree: &QueryTree, parent: usize, u: usize) -> bool
-    requires { u < length tree.now.links }
-    ensures { result ≡ is_child tree.now parent u }
-{
-    tree.parent(u).is_some_and(|link| link.parent == parent)
+    tree.is_child(u, w) || tree.is_child(w, u)
 }

@@ -10,7 +10,7 @@ use Rattle.flux_model.specs.Pattern.{PatternGraph, vertex_count, IsPattern}
 use Rattle.flux_model.specs.Tree.{QueryTree, least, next_tree, tree_after, root_of, tree_for, BelongsTo}
 use Rattle.flux_model.specs.declared.pattern.PatternEdge.{PatternEdge}
 use Rattle.query_tree.specs.Choice.{lower_end}
-use Rattle.query_tree.proofs.LeastLemmas.{least_none, least_passes}
+use Rattle.query_tree.proofs.LeastLemmas.{least_none}
 use Rattle.query_tree.proofs.NumberLemmas.{no_number}
 use Rattle.query_tree.proofs.GrowthLemmas.{tree_belongs}
 
@@ -24,9 +24,6 @@ abbrev pub least_of_all : List ℕ → Option ℕ
 least_of_all edges = least (slice_index edges) (filter (λ _. true) (range_with_len 0 (length edges)))
 
 module _ (q : PatternGraph) (edges vertices : List ℕ) (many : length edges ≡ length q.edges) where
-  pub least_within : (i : ℕ) → Some i ≡ least_of_all edges → i < length q.edges
-  least_within i e = omega (arith, (least_passes (slice_index edges) (λ _. true) (length edges) i (sym e)).0)
-
   plain : (o : Option ℕ) → o ≡ least_of_all edges → least (slice_index edges) (range_with_len 0 (length q.edges)) ≡ o
   plain o e =
       sym (ap (λ n. least (slice_index edges) (range_with_len 0 n)) many)

@@ -76,10 +76,7 @@ impl Growth {
     pub fn is_child(&self, parent: usize, u: usize) -> bool
         ensures { result ≡ is_child self.now parent u }
     {
-        match self.links.get(u) {
-            Some(Some(link)) => link.parent == parent,
-            _ => false,
-        }
+        matches!(self.links.get(u), Some(Some(link)) if link.parent == parent)
     }
 
     /// Whether a link names edge `i`.

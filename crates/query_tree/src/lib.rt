@@ -1,12 +1,12 @@
 //! The spanning tree of a pattern that is chosen by cards, which an index of states hangs on.
 //!
-//! - `numbers`: numbers chosen by a test.
+//! - `numbers`: numbers below a bound, chosen by a test.
 //! - `growth`: a tree that grows by one link at a time.
 //! - `tree`: `QueryTree`, the whole tree, with the children of each vertex and the edges that it leaves out.
 #![tactic(auto)]
 
 mod growth;
-mod numbers;
+pub mod numbers;
 #[cfg(test)]
 mod tests;
 mod tree;

@@ -6,35 +6,38 @@ ghost use Rattle.query_tree.specs.Choice.{better};
 
 use std::alloc::{AllocError, Global};
 
-/// Of the numbers of `cards` that pass the test, the first that has the least card.
-pub fn least_by<P: Fn(usize) -> bool>(cards: &[u64], passes: P) -> Option<usize>
-    requires { (k : ℕ) → k < length cards.now → P.pre passes k }
-    ensures { (test : ℕ → Bool) → ((k : ℕ) (b : Bool) → k < length cards.now → P.post passes k b → b ≡ test k) → result ≡ least (slice_index cards.now) (filter test (range_with_len 0 (length cards.now))) }
+/// The number of the least key among those that pass the test, of equal keys the lowest; `None` where none passes.
+///
+/// The numbers are the places in `keys`, counted from 0.
+pub fn least_by<P: Fn(usize) -> bool>(keys: &[u64], passes: P) -> Option<usize>
+    requires { (k : ℕ) → k < length keys.now → P.pre passes k }
+    ensures least { (test : ℕ → Bool) → ((k : ℕ) (b : Bool) → k < length keys.now → P.post passes k b → b ≡ test k) → result ≡ least (slice_index keys.now) (filter test (range_with_len 0 (length keys.now))) }
+    ensures within { IfSome result (λ i. i < length keys.now) }
 {
     let mut least = None;
-    for i in 0..cards.len() {
+    for i in 0..keys.len() {
         if passes(i) {
-            least = Some(better(cards, least, i));
+            least = Some(better(keys, least, i));
         }
     }
     least
 }
 
-/// Of `i` and the best before it, the one that has the lower card, of equal cards the one before.
-fn better(cards: &[u64], best: Option<usize>, i: usize) -> usize
-    requires this { i < length cards.now }
-    requires best { IfSome best (λ b. b < length cards.now) }
-    ensures better { result ≡ better (slice_index cards.now) best i }
-    ensures within { result < length cards.now }
+/// Of `i` and the best before it, the one of the lower key, of equal keys the one before.
+fn better(keys: &[u64], best: Option<usize>, i: usize) -> usize
+    requires this { i < length keys.now }
+    requires best { IfSome best (λ b. b < length keys.now) }
+    ensures better { result ≡ better (slice_index keys.now) best i }
+    ensures within { result < length keys.now }
 {
     match best {
-        Some(b) if cards[b] <= cards[i] => b,
+        Some(b) if keys[b] <= keys[i] => b,
         _ => i,
     }
 }
 
 /// The numbers below `count` that pass the test, ascending.
-pub fn numbers_where<P: Fn(usize) -> bool>(
+pub(crate) fn numbers_where<P: Fn(usize) -> bool>(
     alloc: Global,
     count: usize,
     passes: P,
@@ -52,7 +55,7 @@ pub fn numbers_where<P: Fn(usize) -> bool>(
 }
 
 /// The first place at which the number stands.
-pub fn place_of(numbers: &[usize], number: usize) -> Option<usize>
+pub(crate) fn place_of(numbers: &[usize], number: usize) -> Option<usize>
     ensures { result ≡ position (λ n. n == number) numbers.now }
 {
     numbers.iter().position(|n| *n == number)

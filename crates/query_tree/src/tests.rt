@@ -1,6 +1,7 @@
 //! Trees worked out by hand.
 ghost use Rattle.std.specs.Prelude.{◌≡◌, codes, IfOk};
 
+use crate::numbers::least_by;
 use crate::{QueryTree, TreeLink};
 use flux_model::{Cards, Labels, Mode, Pattern, PatternEdge, Text};
 use std::alloc::{AllocError, Global};
@@ -107,6 +108,28 @@ fn the_edge_of_least_card_has_the_root(rt: HostRuntime) -> Result<(), Fail> {
     assert!(rt; tree.non_tree().is_empty());
     assert_eq!(rt; child_number(&rt, &tree, 0), 0);
     assert_eq!(rt; child_number(&rt, &tree, 2), 1);
+    Ok(())
+}
+
+#[test]
+fn a_vertex_hangs_from_its_parent_alone(rt: HostRuntime) -> Result<(), Fail> {
+    let alloc = rt.alloc();
+    let tree = tree_of(&rt, alloc, chain(alloc)?, &[1, 0], &[1, 1, 1])?;
+    assert!(rt; tree.is_child(1, 0));
+    assert!(rt; tree.is_child(1, 2));
+    assert!(rt; !tree.is_child(0, 1));
+    assert!(rt; !tree.is_child(2, 0));
+    assert!(rt; !tree.is_child(1, 1));
+    assert!(rt; !tree.is_child(1, 3));
+    Ok(())
+}
+
+#[test]
+fn the_first_of_the_least_keys_is_chosen(rt: HostRuntime) -> Result<(), Fail> {
+    let keys = [5, 2, 7, 2, 1];
+    assert_eq!(rt; least_by(&keys, |i| i < 4), Some(1));
+    assert_eq!(rt; least_by(&keys, |i| i == 2), Some(2));
+    assert_eq!(rt; least_by(&keys, |i| i > 4), None);
     Ok(())
 }
 
