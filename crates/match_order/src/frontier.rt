@@ -1,7 +1,6 @@
 //! `Frontier`: how far an order has come.
-ghost use Rattle.std.specs.Prelude.{◌≡◌, ◌<◌, ℕ, List, [], ◌∷◌, IfOk, IfSome, filter, length, slice_index};
-ghost use Rattle.std.specs.List.{range_with_len};
-ghost use Rattle.flux_model.specs.Tree.{QueryTree as Tree, is_child, least};
+ghost use Rattle.std.specs.Prelude.{◌≡◌, ◌<◌, ℕ, List, [], ◌∷◌, IfOk, IfSome, length};
+ghost use Rattle.flux_model.specs.Tree.{QueryTree as Tree};
 ghost use Rattle.flux_model.specs.Order.{are_neighbours};
 ghost use Rattle.match_order.specs.Marks.{AreMarks, HasCount, is_open};
 ghost use Rattle.match_order.specs.Steps.{next_place};
