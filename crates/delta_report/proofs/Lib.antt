@@ -1,5 +1,6 @@
 pub mod WordsLemmas
 pub mod BlockLemmas
+pub mod AnswersLemmas
 pub mod SortedLemmas
 pub mod EmbeddingsLemmas
 pub mod CallerLemmas

@@ -109,6 +109,10 @@ AreSorted-unique (d ∷ ds) (e ∷ es) (f ∷ fs) p q =
     let rest : es ≡ fs = AreSorted-unique ds es fs p.1 q.1 in
     λ i. first i ∷ rest i
 
+-- so what holds of one sorted form holds of each
+pub each_sorted_form : (P : List Delta → Type 0) (ds es : List Delta) → AreSorted ds es → P es → (sorted : List Delta) → AreSorted ds sorted → P sorted
+each_sorted_form P ds es s p sorted t = subst P (AreSorted-unique ds es sorted s t) p
+
 pub AreReordered-from_places : (ds es : List Delta) → length es ≡ length ds → ((k : ℕ) (d : Delta) → k < length ds → IsReordered (get_or ds k d) (get_or es k d)) → AreReordered ds es
 AreReordered-from_places [] [] e r = tt
 AreReordered-from_places [] (f ∷ fs) e r = cc

@@ -1,10 +1,10 @@
 -- Lines, as a first word and the words after it.
-use Rattle.std.proofs.Common.{◌≡◌, ℕ, List, [], ◌∷◌, ◌++◌, map, refl, sym, ap, ◌∙◌, append_assoc}
-use Rattle.std.specs.List.{flat_map}
+use Rattle.std.proofs.Common.{◌≡◌, ℕ, List, [], ◌∷◌, ◌++◌, map, codes, refl, sym, ap, ◌∙◌, append_assoc}
 use Rattle.std.specs.Fmt.{decimal}
 use Rattle.flux_model.specs.GraphText.{text_line}
 use Rattle.flux_model.specs.Report.{map_line}
-use Rattle.delta_report.specs.Words.{spaced}
+use Rattle.delta_report.specs.Answers.{answer_line}
+use Rattle.delta_report.specs.Words.{spaced, spaced_ids, map_words}
 
 -- words, each with a space before it, and the line's end
 abbrev pub rest_of_line : List (List ℕ) → List ℕ
@@ -19,26 +19,24 @@ text_line-cons first (w ∷ ws) = append_assoc first _ (10 ∷ []) ∙ ap (λ t.
 pub text_line-start : (sign number : List ℕ) (words : List (List ℕ)) → text_line (sign ∷ number ∷ words) ≡ (sign ++ spaced number) ++ rest_of_line words
 text_line-start sign number words = text_line-cons sign (number ∷ words) ∙ sym (append_assoc sign (spaced number) (rest_of_line words))
 
-rest_of_line-ids : (m : List ℕ) → rest_of_line (map decimal m) ≡ flat_map (λ id. spaced (decimal id)) m ++ 10 ∷ []
+rest_of_line-ids : (m : List ℕ) → rest_of_line (map decimal m) ≡ spaced_ids m ++ 10 ∷ []
 rest_of_line-ids [] = refl
 rest_of_line-ids (n ∷ ns) =
     ap (λ t. spaced (decimal n) ++ t) (rest_of_line-ids ns)
-    ∙ sym (append_assoc (spaced (decimal n)) (flat_map (λ id. spaced (decimal id)) ns) (10 ∷ []))
+    ∙ sym (append_assoc (spaced (decimal n)) (spaced_ids ns) (10 ∷ []))
 
 -- the parts of a map's line, as they are written
-pub map_line-parts : (sign : List ℕ) (k : ℕ) (name m : List ℕ) → map_line sign k name m ≡ (sign ++ spaced (decimal k)) ++ (spaced name ++ (flat_map (λ id. spaced (decimal id)) m ++ 10 ∷ []))
+pub map_line-parts : (sign : List ℕ) (k : ℕ) (name m : List ℕ) → map_line sign k name m ≡ (sign ++ spaced (decimal k)) ++ map_words name m
 map_line-parts sign k name m =
     text_line-start sign (decimal k) (name ∷ map decimal m)
     ∙ ap (λ t. (sign ++ spaced (decimal k)) ++ (spaced name ++ t)) (rest_of_line-ids m)
 
-to_right : (a b c d e : List ℕ) → (((a ++ b) ++ c) ++ d) ++ e ≡ a ++ (b ++ (c ++ (d ++ e)))
-to_right a b c d e = simp append_assoc
+pub answer_line-parts : (name m : List ℕ) → answer_line name m ≡ codes "m" ++ map_words name m
+answer_line-parts name m =
+    text_line-cons (codes "m") (name ∷ map decimal m)
+    ∙ ap (λ t. codes "m" ++ (spaced name ++ t)) (rest_of_line-ids m)
 
--- the line, once each of its parts was written
-pub map_line-written : (old started named listed new sign : List ℕ) (k : ℕ) (name m : List ℕ) → started ≡ old ++ (sign ++ spaced (decimal k)) → named ≡ started ++ spaced name → listed ≡ named ++ flat_map (λ id. spaced (decimal id)) m → new ≡ listed ++ 10 ∷ [] → new ≡ old ++ map_line sign k name m
-map_line-written old started named listed new sign k name m a b c d =
-    let start : List ℕ = sign ++ spaced (decimal k) in
-    let ids : List ℕ = flat_map (λ id. spaced (decimal id)) m in
-    d ∙ ap (λ t. t ++ 10 ∷ []) (c ∙ ap (λ t. t ++ ids) (b ∙ ap (λ t. t ++ spaced name) a))
-    ∙ to_right old start (spaced name) ids (10 ∷ [])
-    ∙ ap (λ t. old ++ t) (sym (map_line-parts sign k name m))
+-- a text, once both of its parts were written
+pub written_both : (old mid new first rest text : List ℕ) → text ≡ first ++ rest → mid ≡ old ++ first → new ≡ mid ++ rest → new ≡ old ++ text
+written_both old mid new first rest text parts a b =
+    b ∙ ap (λ t. t ++ rest) a ∙ append_assoc old first rest ∙ ap (λ t. old ++ t) (sym parts)

@@ -1,6 +1,15 @@
 -- The words of a line.
-use Rattle.std.specs.Prelude.{ℕ, List, ◌∷◌}
+use Rattle.std.specs.Prelude.{ℕ, List, [], ◌∷◌, ◌++◌, flat_map}
+use Rattle.std.specs.Fmt.{decimal}
 
 -- a word with the space before it
 abbrev pub spaced : List ℕ → List ℕ
 spaced word = 32 ∷ word
+
+-- numbers, each with the space before it
+abbrev pub spaced_ids : List ℕ → List ℕ
+spaced_ids m = flat_map (λ id. spaced (decimal id)) m
+
+-- what a map's line ends with: the name of its pattern, its ids, and byte 10
+abbrev pub map_words : List ℕ → List ℕ → List ℕ
+map_words name m = spaced name ++ (spaced_ids m ++ 10 ∷ [])

@@ -1,15 +1,13 @@
 //! The block of an update: what each pattern gained and lost.
 ghost use Rattle.std.specs.Prelude.{◌≡◌, [], ◌∷◌, ◌++◌, List, length, flat_map, OnOk, OnErr};
-ghost use Rattle.std.specs.Fmt.{decimal};
 ghost use Rattle.flux_model.specs.Grown.{GrewByFront};
 ghost use Rattle.flux_model.specs.Report.{map_line};
 ghost use Rattle.flux_model.specs.declared.maps.Delta.{Delta};
-ghost use Rattle.delta_report.specs.Words.{spaced};
 ghost use Rattle.delta_report.specs.Block.{delta_lines, deltas_text, HavePatterns};
 ghost use Rattle.delta_report.specs.Sorted.{AreSorted};
 ghost use Rattle.flux_model.specs.Deltas.{AreReordered};
 
-use crate::words::{end_line, start_line, write_number, write_word};
+use crate::words::{end_map_line, start_line};
 use flux_model::{Delta, Deltas, Map, Maps, Patterns};
 use std::alloc::AllocError;
 
@@ -92,18 +90,5 @@ fn write_map(
     ensures err { OnErr result (GrewByFront out.old.items out.new.items (map_line (sign ∷ []) number name.now map.now)) }
 {
     start_line(sign, number, out)?;
-    write_word(name, out)?;
-    write_ids(map, out)?;
-    end_line(out)
-}
-
-/// Writes each id with a space before it.
-fn write_ids(map: &Map, out: &mut Vec<u8>) -> Result<(), AllocError>
-    ensures ok { OnOk result (out.new.items ≡ out.old.items ++ flat_map (λ id. spaced (decimal id)) map.now) }
-    ensures err { OnErr result (GrewByFront out.old.items out.new.items (flat_map (λ id. spaced (decimal id)) map.now)) }
-{
-    for i in 0..map.len() {
-        write_number(u64::from(map.get(i)), out)?;
-    }
-    Ok(())
+    end_map_line(name, map, out)
 }

@@ -1,11 +1,10 @@
-use Rattle.std.proofs.Common.{◌≡◌, List, ap, ◌∙◌, ◌++◌, subst}
+use Rattle.std.proofs.Common.{◌≡◌, List, ◌++◌}
 use Rattle.std.proofs.lemmas.Result.{on_ok_weaker, on_err_weaker}
 use Rattle.flux_model.specs.Grown.{GrewByFront}
 use Rattle.flux_model.specs.declared.maps.Delta.{Delta}
 use Rattle.delta_report.specs.Block.{deltas_text}
-use Rattle.delta_report.specs.Sorted.{AreSorted}
 use Rattle.flux_model.proofs.GrownLemmas.{on_ok}
-use Rattle.delta_report.proofs.SortedLemmas.{AreReordered-from_places, AreSorted-from_places, AreSorted-unique}
+use Rattle.delta_report.proofs.SortedLemmas.{AreReordered-from_places, AreSorted-from_places, each_sorted_form}
 use Rattle.delta_report.proofs.block.write_deltas.Goals as goal
 
 pub returns-in_err-sort-clause-same : goal.returns-in_err-sort-clause-same
@@ -21,15 +20,13 @@ returns-clause-sorted c =
 pub returns-clause-ok : goal.returns-clause-ok
 returns-clause-ok c =
     on_ok_weaker c.write_each.result
-    (λ (e : c.write_each.new.out.items ≡ c.args.out.now.items ++ deltas_text c.args.number c.args.patterns.now c.sort.new.self). λ (sorted : List Delta) (s : AreSorted c.args.deltas.now sorted).
-    e ∙ ap (λ ds. c.args.out.now.items ++ deltas_text c.args.number c.args.patterns.now ds)
-    (AreSorted-unique c.args.deltas.now c.sort.new.self sorted (AreSorted-from_places _ _ c.sort.ensures.len c.sort.ensures.same c.in_ok-sort.ensures.sorted) s))
+    (each_sorted_form (λ (ds : List Delta). c.write_each.new.out.items ≡ c.args.out.now.items ++ deltas_text c.args.number c.args.patterns.now ds) c.args.deltas.now c.sort.new.self
+    (AreSorted-from_places _ _ c.sort.ensures.len c.sort.ensures.same c.in_ok-sort.ensures.sorted))
     c.write_each.ensures.ok
 
 pub returns-clause-err : goal.returns-clause-err
 returns-clause-err c =
     on_err_weaker c.write_each.result
-    (λ (g : GrewByFront c.args.out.now.items c.write_each.new.out.items (deltas_text c.args.number c.args.patterns.now c.sort.new.self)). λ (sorted : List Delta) (s : AreSorted c.args.deltas.now sorted).
-    subst (λ ds. GrewByFront c.args.out.now.items c.write_each.new.out.items (deltas_text c.args.number c.args.patterns.now ds))
-    (AreSorted-unique c.args.deltas.now c.sort.new.self sorted (AreSorted-from_places _ _ c.sort.ensures.len c.sort.ensures.same c.in_ok-sort.ensures.sorted) s) g)
+    (each_sorted_form (λ (ds : List Delta). GrewByFront c.args.out.now.items c.write_each.new.out.items (deltas_text c.args.number c.args.patterns.now ds)) c.args.deltas.now c.sort.new.self
+    (AreSorted-from_places _ _ c.sort.ensures.len c.sort.ensures.same c.in_ok-sort.ensures.sorted))
     c.write_each.ensures.err
