@@ -37,7 +37,7 @@ deltas_text-with_delta k patterns d ds = by d.gained d.lost refl refl
     by [] (m ∷ ms) e f = rw (e, f, lt-ltb 0 (length (m ∷ ms)) (omega arith)) refl
     by (m ∷ ms) lost e f = rw (e, f, lt-ltb 0 (length ((m ∷ ms) ++ lost)) (omega arith)) refl
 
-name_here : (front : List PatternGraph) (q : PatternGraph) (qs : List PatternGraph) → name_at (front ++ q ∷ qs) (length front) ≡ q.name
+pub name_here : (front : List PatternGraph) (q : PatternGraph) (qs : List PatternGraph) → name_at (front ++ q ∷ qs) (length front) ≡ q.name
 name_here front q qs =
     let within : length front < length (front ++ q ∷ qs) = omega (arith, length-append front (q ∷ qs)) in
     name_at-get (front ++ q ∷ qs) (length front) q
@@ -81,7 +81,7 @@ with_delta-none d ds e f = rw (le-ltb 0 (length (d.gained ++ d.lost)) (omega (ar
 abbrev IsPatternBelow : ℕ → Delta → Type 0
 IsPatternBelow n d = d.pattern < n
 
-with_delta-all : (P : Delta → Type 0) (d : Delta) (ds : List Delta) → P d → AllByRecursion P ds → AllByRecursion P (with_delta d ds)
+pub with_delta-all : (P : Delta → Type 0) (d : Delta) (ds : List Delta) → P d → AllByRecursion P ds → AllByRecursion P (with_delta d ds)
 with_delta-all P d ds p a = by (nat_lt 0 (length (d.gained ++ d.lost)))
   where
     by : (b : Bool) → AllByRecursion P (cond b (d ∷ ds) ds)

@@ -4,4 +4,5 @@ pub mod AnswersLemmas
 pub mod SortedLemmas
 pub mod EmbeddingsLemmas
 pub mod CallerLemmas
+pub mod ListingLemmas
 pub mod TriangleLemmas
