@@ -11,8 +11,8 @@ use crate::words::{end_line, end_map_line, start_line};
 use flux_model::{Deltas, Map, Maps, Patterns};
 use std::alloc::AllocError;
 
-/// Sorts the maps of each delta, and writes for each delta a line `m NAME IDS` for each map that was gained, and at the end
-/// `= TOTAL`, the number of these lines. The name is that of the delta's pattern. What was lost has no line.
+/// Sorts the maps of each delta, and writes for each delta a line `m NAME IDS` for each map that was gained, and at the
+/// end `= TOTAL`, the number of these lines. The name is that of the delta's pattern. What was lost is not written.
 ///
 /// At `AllocError` a front part of these lines was written, and the deltas have the same maps as before, in some order.
 pub fn write_answers(
@@ -45,6 +45,7 @@ fn write_each(patterns: &Patterns, deltas: &Deltas, out: &mut Vec<u8>) -> Result
         let delta = deltas.get(i);
         let name = patterns.get(delta.pattern).name();
         write_maps(name.bytes(), &delta.gained, out)?;
+        // Each map has a line in `out`, so their number fits.
         total += delta.gained.len();
     }
     Ok(total)

@@ -1,4 +1,5 @@
-//! The lines of a report: what an update changed, why a line is refused, and how the run ended.
+//! The lines of a report: what an update changed, why a line is refused, how the run ended, and all embeddings in a
+//! graph.
 //!
 //! Each call appends to the text. At `AllocError` the text has grown by a front part of what was to be written.
 #![tactic(auto)]
