@@ -1,0 +1,14 @@
+//! All patterns of a run, each with its spanning tree and the exact rows of its states over one graph.
+//!
+//! - `registry`: `Registry`, the patterns and what is kept of each.
+//! - `index`: `PatternIndex`, the tree and the rows of one pattern.
+//! - `deltas`: deltas, of which those without a map are left out.
+#![tactic(auto)]
+
+mod deltas;
+mod index;
+mod registry;
+#[cfg(test)]
+mod tests;
+
+pub use registry::Registry;

@@ -1,0 +1,143 @@
+//! `Registry`: the patterns of a run, and what is kept of each.
+ghost use Rattle.std.specs.Prelude.{◌≡◌, ◌<◌, ◌≤◌, ◌+◌, ◌*◌, ℕ, length, map, slice_get, false, Some, IfOk};
+ghost use Rattle.std.specs.FinMap.{len};
+ghost use Rattle.std.specs.Option.{option_map};
+ghost use Rattle.flux_model.specs.Deltas.{answer_deltas, AreReordered};
+ghost use Rattle.flux_model.specs.Graph.{Graph};
+ghost use Rattle.flux_model.specs.Pattern.{PatternGraph, vertex_count};
+ghost use Rattle.flux_model.specs.Tree.{tree, BelongsTo};
+ghost use Rattle.flux_model.specs.Exact.{StateRows};
+ghost use Rattle.pattern_registry.specs.States.{trees_over, IsIndexed, AreExact};
+
+use crate::deltas::add_delta;
+use crate::index::PatternIndex;
+use dcg_store::Dcg;
+use flux_model::{Delta, Deltas, Ledger, Maps, Patterns, Steps};
+use label_graph::ReadGraph;
+use query_tree::QueryTree;
+use std::alloc::{AllocError, Global};
+use std::marker::Model;
+
+/// The patterns of a run, each with its spanning tree and the rows of its states.
+///
+/// The patterns and their trees stay. While it is not broken, no row is known to be wrong.
+#[derive(Drop)]
+pub struct Registry {
+    patterns: Patterns,
+    /// For each pattern, in the same order.
+    indexes: Vec<PatternIndex>,
+    is_broken: bool,
+}
+
+impl Model for Registry {
+    ghost use Rattle.pattern_registry.specs.States.{PatternStates, IsIndexed};
+    ghost use Rattle.pattern_registry.specs.Codes.{pattern_states_code};
+
+    ghost Value = { PatternStates };
+
+    ghost coded = { pattern_states_code };
+
+    ghost use Rattle.pattern_registry.specs.Kept.{pattern_states};
+
+    ghost view = { λ r. pattern_states r.patterns r.indexes.items r.is_broken };
+
+    ghost invariant = { λ r. IsIndexed (pattern_states r.patterns r.indexes.items r.is_broken) };
+}
+
+impl Registry {
+    /// These patterns, each with the tree that its cards over the graph choose, and with rows that are exact over the graph.
+    ///
+    /// `AllocError` where no memory is left.
+    pub fn start<G: ReadGraph<L>, L: Ledger>(
+        alloc: Global,
+        patterns: Patterns,
+        graph: &G,
+        steps: &mut Steps<L>,
+    ) -> Result<Registry, AllocError>
+        ensures patterns { IfOk result (λ registry. registry.patterns ≡ patterns) }
+        ensures trees { IfOk result (λ registry. registry.trees ≡ trees_over (G.graph graph.now) patterns) }
+        ensures exact { IfOk result (λ registry. AreExact registry (G.graph graph.now)) }
+        ensures whole { IfOk result (λ registry. registry.is_broken ≡ false) }
+    {
+        let mut indexes = Vec::new(alloc);
+        for k in 0..patterns.count() {
+            indexes.push(PatternIndex::build(alloc, patterns.get(k), graph, steps)?)?;
+        }
+        Ok(Registry {
+            patterns,
+            indexes,
+            is_broken: false,
+        })
+    }
+
+    /// All embeddings of the patterns in the graph, over which the rows have to be exact, as gained.
+    ///
+    /// The embeddings of a pattern stand in some order. `AllocError` where no memory is left.
+    pub fn answers<G: ReadGraph<L>, L: Ledger>(
+        &self,
+        alloc: Global,
+        graph: &G,
+        steps: &mut Steps<L>,
+    ) -> Result<Deltas, AllocError>
+        requires { AreExact self.now (G.graph graph.now) }
+        ensures { IfOk result (λ deltas. AreReordered (answer_deltas 0 (G.graph graph.now) self.now.patterns) deltas) }
+    {
+        let mut deltas = Deltas::new(alloc);
+        for k in 0..self.patterns.count() {
+            let pattern = self.patterns.get(k);
+            let gained = self.indexes[k].embeddings(alloc, pattern, graph, steps)?;
+            let delta = Delta {
+                pattern: k,
+                gained,
+                lost: Maps::new(alloc),
+            };
+            add_delta(&mut deltas, delta)?;
+        }
+        Ok(deltas)
+    }
+
+    /// The patterns.
+    pub fn patterns(&self) -> &Patterns
+        ensures patterns { result.now ≡ self.now.patterns }
+        ensures indexed { IsIndexed self.now }
+    {
+        &self.patterns
+    }
+
+    /// The tree of the pattern at place `k`, counted from 0, which has to be below the number of patterns.
+    pub fn tree(&self, k: usize) -> &QueryTree
+        requires { k < length self.now.patterns }
+        ensures tree { slice_get self.now.trees k ≡ Some result.now }
+        ensures belongs { (q : PatternGraph) → slice_get self.now.patterns k ≡ Some q → BelongsTo q result.now }
+    {
+        &self.indexes[k].tree
+    }
+
+    /// The rows of the pattern at place `k`, counted from 0, which has to be below the number of patterns.
+    pub fn dcg(&self, k: usize) -> &Dcg
+        requires { k < length self.now.patterns }
+        ensures { slice_get self.now.rows k ≡ Some result.now }
+    {
+        &self.indexes[k].dcg
+    }
+
+    /// How many rows are kept of the pattern at place `k`, counted from 0, which has to be below the number of patterns.
+    ///
+    /// The registry must not be broken.
+    pub fn stored(&self, k: usize) -> u64
+        requires whole { self.now.is_broken ≡ false }
+        requires pattern { k < length self.now.patterns }
+        ensures count { option_map (λ d. len d.rows) (slice_get self.now.rows k) ≡ Some result }
+        ensures few { (g : Graph) (q : PatternGraph) → AreExact self.now g → slice_get self.now.patterns k ≡ Some q
+            → result ≤ length g.triples * vertex_count q + length g.vertices }
+    {
+        self.indexes[k].dcg.stored()
+    }
+
+    /// Whether an update stopped in its midst, after which rows may be wrong.
+    pub fn is_broken(&self) -> bool
+        ensures { result ≡ self.now.is_broken }
+    {
+        self.is_broken
+    }
+}
