@@ -85,7 +85,7 @@ impl Registry {
         let mut deltas = Deltas::new(alloc);
         for k in 0..self.patterns.count() {
             let pattern = self.patterns.get(k);
-            let gained = self.indexes[k].embeddings(alloc, pattern, graph, steps)?;
+            let gained = self.index_of(k).embeddings(alloc, pattern, graph, steps)?;
             let delta = Delta {
                 pattern: k,
                 gained,
@@ -110,7 +110,7 @@ impl Registry {
         ensures tree { slice_get self.now.trees k ≡ Some result.now }
         ensures belongs { (q : PatternGraph) → slice_get self.now.patterns k ≡ Some q → BelongsTo q result.now }
     {
-        &self.indexes[k].tree
+        &self.index_of(k).tree
     }
 
     /// The rows of the pattern at place `k`, counted from 0, which has to be below the number of patterns.
@@ -118,7 +118,7 @@ impl Registry {
         requires { k < length self.now.patterns }
         ensures { slice_get self.now.rows k ≡ Some result.now }
     {
-        &self.indexes[k].dcg
+        &self.index_of(k).dcg
     }
 
     /// How many rows are kept of the pattern at place `k`, counted from 0, which has to be below the number of patterns.
@@ -131,7 +131,18 @@ impl Registry {
         ensures few { (g : Graph) (q : PatternGraph) → AreExact self.now g → slice_get self.now.patterns k ≡ Some q
             → result ≤ length g.triples * vertex_count q + length g.vertices }
     {
-        self.indexes[k].dcg.stored()
+        self.index_of(k).dcg.stored()
+    }
+
+    /// What is kept of the pattern at place `k`, which has to be below the number of patterns.
+    fn index_of(&self, k: usize) -> &PatternIndex
+        requires { k < length self.now.patterns }
+        ensures tree { slice_get self.now.trees k ≡ Some result.now.tree }
+        ensures rows { slice_get self.now.rows k ≡ Some result.now.dcg }
+        ensures belongs { (q : PatternGraph) → slice_get self.now.patterns k ≡ Some q → BelongsTo q result.now.tree }
+        ensures whole { self.now.is_broken ≡ false → result.now.dcg.is_broken ≡ false }
+    {
+        &self.indexes[k]
     }
 
     /// Whether an update stopped in its midst, after which rows may be wrong.

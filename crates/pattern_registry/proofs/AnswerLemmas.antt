@@ -1,0 +1,95 @@
+-- Deltas of answers that a loop makes pattern by pattern.
+use Rattle.std.proofs.Common.{◌≡◌, ℕ, suc, ◌+◌, ◌<◌, Bool, true, false, cond, nat_lt, List, [], ◌∷◌, ◌++◌, length, get_or, take, refl, sym, ap, subst, ◌∙◌, arith, Some}
+use Rattle.std.specs.Prelude.{IsPermutation}
+use Rattle.std.specs.List.{AllByRecursion, AllZip, slice_get}
+use Rattle.std.proofs.lemmas.List.{take_more, length-append, length-take}
+use Rattle.std.proofs.lemmas.List.Sorted.{IsPermutation-sym, IsPermutation-refl, length_permutation}
+use Rattle.std.proofs.lemmas.Option.{slice_get_within, get_or_from_slice_get}
+use Rattle.flux_model.specs.Graph.{Graph}
+use Rattle.flux_model.specs.Pattern.{PatternGraph}
+use Rattle.flux_model.specs.Embedding.{embeddings}
+use Rattle.flux_model.specs.declared.maps.Delta.{Delta}
+use Rattle.flux_model.specs.Deltas.{IsReordered, AreReordered, with_delta, answer_deltas}
+use Rattle.tree_search.specs.Members.{GrewByAll}
+use Rattle.pattern_registry.proofs.ZipLemmas.{AllZip-append}
+
+-- what was found from nothing on is all, in some order
+pub found-all : {X : Type 0} (old new all : List X) → old ≡ [] → GrewByAll old new all → IsPermutation all new
+found-all old new all none grew =
+    let is : new ≡ grew.more = grew.is ∙ ap (λ l. l ++ grew.more) none in
+    subst (IsPermutation all) (sym is) (IsPermutation-sym grew.more all grew.permutation)
+
+-- ---- one pattern more
+
+with_delta-append : (d : Delta) (ds es : List Delta) → with_delta d (ds ++ es) ≡ with_delta d ds ++ es
+with_delta-append d ds es = by (nat_lt 0 (length (d.gained ++ d.lost)))
+  where
+    by : (b : Bool) → cond b (d ∷ (ds ++ es)) (ds ++ es) ≡ cond b (d ∷ ds) ds ++ es
+    by true = refl
+    by false = refl
+
+-- the delta of a pattern that is answered
+abbrev answer : ℕ → Graph → PatternGraph → Delta
+answer i g q = record { pattern = i; gained = embeddings q g; lost = [] }
+
+answer_deltas-append : (i : ℕ) (g : Graph) (qs rs : List PatternGraph) → answer_deltas i g (qs ++ rs) ≡ answer_deltas i g qs ++ answer_deltas (i + length qs) g rs
+answer_deltas-append i g [] rs = ap (λ n. answer_deltas n g rs) (omega arith)
+answer_deltas-append i g (q ∷ qs) rs =
+    let number : suc i + length qs ≡ i + length (q ∷ qs) = omega arith in
+    ap (with_delta (answer i g q)) (answer_deltas-append (suc i) g qs rs)
+    ∙ with_delta-append (answer i g q) (answer_deltas (suc i) g qs) (answer_deltas (suc i + length qs) g rs)
+    ∙ ap (λ n. with_delta (answer i g q) (answer_deltas (suc i) g qs) ++ answer_deltas n g rs) number
+
+take_next : {X : Type 0} (xs : List X) (i : ℕ) (x : X) → slice_get xs i ≡ Some x → take (i + 1) xs ≡ take i xs ++ x ∷ []
+take_next xs i x e =
+    take_more xs i x (slice_get_within xs i x e) ∙ ap (λ y. take i xs ++ y ∷ []) (get_or_from_slice_get xs i x x e)
+
+answers_next : (g : Graph) (qs : List PatternGraph) (k : ℕ) (q : PatternGraph) → slice_get qs k ≡ Some q
+    → answer_deltas 0 g (take (k + 1) qs) ≡ answer_deltas 0 g (take k qs) ++ with_delta (answer k g q) []
+answers_next g qs k q e =
+    let within : k < length qs = slice_get_within qs k q e in
+    let number : 0 + length (take k qs) ≡ k = omega (arith, length-take k qs) in
+    ap (answer_deltas 0 g) (take_next qs k q e) ∙ answer_deltas-append 0 g (take k qs) (q ∷ [])
+    ∙ ap (λ n. answer_deltas 0 g (take k qs) ++ with_delta (answer n g q) []) number
+
+-- a delta in another order has a map where it has one
+with_delta-reordered : (d e : Delta) → IsReordered d e → AreReordered (with_delta d []) (with_delta e [])
+with_delta-reordered d e r = by (nat_lt 0 (length (e.gained ++ e.lost))) (ap (nat_lt 0) same)
+  where
+    same : length (d.gained ++ d.lost) ≡ length (e.gained ++ e.lost)
+    same = omega (arith, length-append d.gained d.lost, length-append e.gained e.lost, length_permutation d.gained e.gained r.gained, length_permutation d.lost e.lost r.lost)
+
+    by : (b : Bool) → nat_lt 0 (length (d.gained ++ d.lost)) ≡ b → AreReordered (with_delta d []) (cond b (e ∷ []) [])
+    by true h = rw h (r, tt)
+    by false h = rw h tt
+
+pub reordered_next : (g : Graph) (qs : List PatternGraph) (k : ℕ) (q : PatternGraph) (old new : List Delta) (maps none : List (List ℕ)) → slice_get qs k ≡ Some q
+    → IsPermutation (embeddings q g) maps → none ≡ [] → AreReordered (answer_deltas 0 g (take k qs)) old → new ≡ old ++ with_delta (record { pattern = k; gained = maps; lost = none }) []
+    → AreReordered (answer_deltas 0 g (take (k + 1) qs)) new
+reordered_next g qs k q old new maps none e maps_are none_is before now =
+    rw (answers_next g qs k q e, now)
+    (AllZip-append IsReordered (answer_deltas 0 g (take k qs)) (with_delta (answer k g q) []) old (with_delta (record { pattern = k; gained = maps; lost = none }) []) before
+    (with_delta-reordered (answer k g q) (record { pattern = k; gained = maps; lost = none }) (record { pattern = refl; gained = maps_are; lost = rw none_is (IsPermutation-refl []) })))
+
+-- ---- the patterns ascend
+
+abbrev IsBelow : ℕ → Delta → Type 0
+IsBelow n d = d.pattern < n
+
+below_weaker : (n : ℕ) (ds : List Delta) → AllByRecursion (IsBelow n) ds → AllByRecursion (IsBelow (n + 1)) ds
+below_weaker n [] a = tt
+below_weaker n (d ∷ ds) a = (omega arith, below_weaker n ds a.1)
+
+below_append : (n : ℕ) (ds es : List Delta) → AllByRecursion (IsBelow n) ds → AllByRecursion (IsBelow n) es → AllByRecursion (IsBelow n) (ds ++ es)
+below_append n [] es a b = b
+below_append n (d ∷ ds) es a b = (a.0, below_append n ds es a.1 b)
+
+below_one : (n : ℕ) (d : Delta) → d.pattern < n → AllByRecursion (IsBelow n) (with_delta d [])
+below_one n d h = by (nat_lt 0 (length (d.gained ++ d.lost)))
+  where
+    by : (b : Bool) → AllByRecursion (IsBelow n) (cond b (d ∷ []) [])
+    by true = (h, tt)
+    by false = tt
+
+pub below_next : (n : ℕ) (ds new : List Delta) (d : Delta) → d.pattern ≡ n → AllByRecursion (λ (e : Delta). e.pattern < n) ds → new ≡ ds ++ with_delta d [] → AllByRecursion (λ (e : Delta). e.pattern < n + 1) new
+below_next n ds new d is a now = rw now (below_append (n + 1) ds (with_delta d []) (below_weaker n ds a) (below_one (n + 1) d (omega arith)))
