@@ -1,3 +1,4 @@
 pub mod ZipLemmas
 pub mod AnswerLemmas
 pub mod IndexLemmas
+pub mod CostLemmas

@@ -1,3 +1,4 @@
 pub mod States
 pub mod Codes
 pub mod Kept
+pub mod Spent

@@ -1,13 +1,13 @@
 //! `Registry`: the patterns of a run, and what is kept of each.
-ghost use Rattle.std.specs.Prelude.{◌≡◌, ◌<◌, ◌≤◌, ◌+◌, ◌*◌, ℕ, length, map, slice_get, false, Some, IfOk};
+ghost use Rattle.std.specs.Prelude.{◌≡◌, ◌<◌, ◌≤◌, ◌+◌, ◌*◌, ℕ, length, slice_get, false, Some, IfOk, OnOk};
 ghost use Rattle.std.specs.FinMap.{len};
 ghost use Rattle.std.specs.Option.{option_map};
 ghost use Rattle.flux_model.specs.Deltas.{answer_deltas, AreReordered};
 ghost use Rattle.flux_model.specs.Graph.{Graph};
 ghost use Rattle.flux_model.specs.Pattern.{PatternGraph, vertex_count};
-ghost use Rattle.flux_model.specs.Tree.{tree, BelongsTo};
-ghost use Rattle.flux_model.specs.Exact.{StateRows};
+ghost use Rattle.flux_model.specs.Tree.{BelongsTo};
 ghost use Rattle.pattern_registry.specs.States.{trees_over, IsIndexed, AreExact};
+ghost use Rattle.pattern_registry.specs.Spent.{MeetNoDeadEnd, full_costs};
 
 use crate::deltas::add_delta;
 use crate::index::PatternIndex;
@@ -20,7 +20,8 @@ use std::marker::Model;
 
 /// The patterns of a run, each with its spanning tree and the rows of its states.
 ///
-/// The patterns and their trees stay. While it is not broken, no row is known to be wrong.
+/// The rows are exact over a graph where those of each pattern are what its states over that graph say. Once the registry is
+/// broken, nothing is known of them.
 #[derive(Drop)]
 pub struct Registry {
     patterns: Patterns,
@@ -72,7 +73,9 @@ impl Registry {
 
     /// All embeddings of the patterns in the graph, over which the rows have to be exact, as gained.
     ///
-    /// The embeddings of a pattern stand in some order. `AllocError` where no memory is left.
+    /// Those of one pattern stand in some order, and a pattern without an embedding has no delta. Where each pattern is of mode
+    /// `Hom` and its tree leaves out no edge, no search has a dead end: they take no more steps than the vertices of the graph
+    /// and the rows that lead to the embeddings account for. `AllocError` where no memory is left.
     pub fn answers<G: ReadGraph<L>, L: Ledger>(
         &self,
         alloc: Global,
@@ -80,7 +83,8 @@ impl Registry {
         steps: &mut Steps<L>,
     ) -> Result<Deltas, AllocError>
         requires { AreExact self.now (G.graph graph.now) }
-        ensures { IfOk result (λ deltas. AreReordered (answer_deltas 0 (G.graph graph.now) self.now.patterns) deltas) }
+        ensures answers { IfOk result (λ deltas. AreReordered (answer_deltas 0 (G.graph graph.now) self.now.patterns) deltas) }
+        ensures steps { OnOk result (MeetNoDeadEnd self.now → steps.new ≤ steps.old + full_costs (G.graph graph.now) self.now.patterns self.now.trees) }
     {
         let mut deltas = Deltas::new(alloc);
         for k in 0..self.patterns.count() {
@@ -96,7 +100,7 @@ impl Registry {
         Ok(deltas)
     }
 
-    /// The patterns.
+    /// The patterns. Each has a tree and rows.
     pub fn patterns(&self) -> &Patterns
         ensures patterns { result.now ≡ self.now.patterns }
         ensures indexed { IsIndexed self.now }
@@ -134,6 +138,13 @@ impl Registry {
         self.index_of(k).dcg.stored()
     }
 
+    /// Whether an update stopped in its midst, after which rows may be wrong.
+    pub fn is_broken(&self) -> bool
+        ensures { result ≡ self.now.is_broken }
+    {
+        self.is_broken
+    }
+
     /// What is kept of the pattern at place `k`, which has to be below the number of patterns.
     fn index_of(&self, k: usize) -> &PatternIndex
         requires { k < length self.now.patterns }
@@ -143,12 +154,5 @@ impl Registry {
         ensures whole { self.now.is_broken ≡ false → result.now.dcg.is_broken ≡ false }
     {
         &self.indexes[k]
-    }
-
-    /// Whether an update stopped in its midst, after which rows may be wrong.
-    pub fn is_broken(&self) -> bool
-        ensures { result ≡ self.now.is_broken }
-    {
-        self.is_broken
     }
 }
