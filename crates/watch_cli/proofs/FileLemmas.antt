@@ -1,7 +1,8 @@
 -- A file that is read piece by piece.
-use Rattle.std.proofs.Common.{◌≡◌, ℕ, ◌+◌, ◌≤◌, ◌<◌, List, [], ◌∷◌, ◌++◌, length, take, drop, refl, sym, ap, ◌∙◌, append_assoc, append-nil, length-append, arith, Option, None, Some, Result, Ok, Err, IfSome, MatchOption, subst, take-append-drop, length-take}
-use Rattle.std.proofs.Math.Seq.{drop-append_seam, take-append_seam}
+use Rattle.std.proofs.Common.{◌≡◌, ℕ, ◌-◌, ◌+◌, ◌≤◌, ◌<◌, List, [], ◌∷◌, ◌++◌, length, take, drop, refl, sym, ap, ◌∙◌, append_assoc, append-nil, length-append, arith, Option, None, Some, Result, Ok, Err, IfSome, MatchOption, subst, take-append-drop, length-take}
+use Rattle.std.proofs.Math.Seq.{drop-append_seam, take-append_seam, take-append-add}
 use Rattle.std.proofs.lemmas.Grind.{common_steps}
+use Rattle.std.specs.Result.{result_map_both}
 use Rattle.flux_outside.specs.Told.{Files, AnswersFor}
 use Rattle.flux_model.specs.Lines.{InputLine, open_end, whole, rest, lines}
 use Rattle.flux_model.specs.FileReading.{result_and_then, read_from}
@@ -9,10 +10,13 @@ use Rattle.flux_model.specs.declared.code.Bad.{Bad}
 use Rattle.flux_model.proofs.FileReadingLemmas.{read_from-append}
 use Rattle.stream_lines.specs.Waiting.{Waiting}
 use Rattle.stream_lines.specs.Follows.{Follows}
-use Rattle.stream_lines.proofs.CallerLemmas.{lines-append, length-whole}
-use Rattle.watch_cli.specs.Files.{HasFile}
+use Rattle.stream_lines.proofs.CallerLemmas.{lines-append, whole-append, length-whole}
+use Rattle.flux_model.specs.Verdict.{Verdict, NoFile, TooMuch}
+use Rattle.flux_model.specs.declared.limits.Limits.{Limits}
+use Rattle.watch_cli.specs.Files.{HasFile, FileIs}
 use Rattle.watch_cli.specs.Progress.{IsFront, HasFront, FileRead}
-use Rattle.watch_cli.specs.Stops.{LinesStop, FileStop}
+use Rattle.watch_cli.specs.Stops.{read_as, LinesStop, StopWhere}
+use Rattle.watch_cli.proofs.JudgedLemmas.{short-judged, refused-judged, longer-judged, no_file-judged}
 use Rattle.watch_cli.specs.declared.stop.Stop.{Stop}
 use Rattle.watch_cli.specs.declared.stop.Stop.TheVariants as stop
 
@@ -79,6 +83,10 @@ HasFile-end (Some m) name text buf n given count zero room front told = all_of (
 pub piece_len : (n : ℕ) (buf : List ℕ) → n ≤ length buf → n ≡ length (take n buf)
 piece_len n buf bound = omega (arith, length-take n buf)
 
+-- the first bytes of a text and what follows it, where the text is no longer
+take-longer : (k : ℕ) (text more : List ℕ) → length text ≤ k → take k (text ++ more) ≡ text ++ take (k - length text) more
+take-longer k text more le = ap (λ j. take j (text ++ more)) (omega (arith, le)) ∙ take-append-add text more (k - length text)
+
 module _ {S : Type 0} (step : ℕ → S → InputLine → Result S Bad) (n : ℕ) where
   -- lines that are refused stay refused, whatever follows
   pub refused-more : (k : ℕ) (s : S) (xs ys : List InputLine) (bad : Bad) → read_from step k s xs ≡ Err bad → read_from step k s (xs ++ ys) ≡ Err bad
@@ -135,35 +143,30 @@ module _ {S : Type 0} (step : ℕ → S → InputLine → Result S Bad) (n : ℕ
         rest = ap (λ (w : Waiting). w.rest) passed ∙ add.1;
       }
 
-  -- one of the lines that a piece ends was refused
-  pub FileRead-refused : (given count taken : ℕ) (first now : S) (w0 w1 : Waiting) (files : Option Files) (name buf : List ℕ) (bad : Bad)
+  -- one of the lines that a piece ends was refused, of the file and of its first bytes up to a limit
+  pub FileRead-refused : (limit given count taken : ℕ) (first now : S) (w0 w1 : Waiting) (files : Option Files) (name buf : List ℕ) (bad : Bad)
       → FileRead step n given taken first now w0 files name
-      → IfSome files (λ m. AnswersFor (m name) (Some count) given buf)
+      → IfSome files (λ m. AnswersFor (m name) (Some count) given buf) → count ≡ length (take count buf) → given + count ≤ limit
       → ((b : List ℕ) → rest w0.line_bytes b ≡ w0.rest → Follows b (take count buf) w0 w1)
       → read_from step (taken + 1) now w1.queue ≡ Err bad
-      → HasFile files name (λ b. read_from step 1 first (lines n b) ≡ Err bad)
-  FileRead-refused given count taken first now w0 w1 files name buf bad so told follows read =
+      → HasFile files name (λ b. (read_from step 1 first (whole n (take limit b)) ≡ Err bad) × (read_from step 1 first (lines n b) ≡ Err bad))
+  FileRead-refused limit given count taken first now w0 w1 files name buf bad so told len within follows read =
       let piece : List ℕ = take count buf in
+      let text : List ℕ = so.bytes ++ piece in
       let add = pushed given taken first now w0 w1 files name piece so follows in
-      let here : read_from step 1 first (whole n (so.bytes ++ piece)) ≡ Err bad =
+      let here : read_from step 1 first (whole n text) ≡ Err bad =
       ap (read_from step 1 first) add.0 ∙ taken-more 1 first now (whole n so.bytes) w1.queue so.taken ∙ ap (λ k. read_from step k now w1.queue) (omega (arith, so.number)) ∙ read in
-      HasFile-map files name (λ b. Begins (so.bytes ++ piece) b × (length so.bytes + count ≤ length b)) (λ b. read_from step 1 first (lines n b) ≡ Err bad)
-      (λ b h. ap (λ t. read_from step 1 first (lines n t)) h.0.1 ∙ ap (read_from step 1 first) (lines-append n (so.bytes ++ piece) h.0.0)
-      ∙ refused-more 1 first (whole n (so.bytes ++ piece)) (lines n (open_end (so.bytes ++ piece) ++ h.0.0)) bad here)
+      let short : length text ≤ limit = omega (arith, length-append so.bytes piece, so.count, len, within) in
+      HasFile-map files name (λ b. Begins text b × (length so.bytes + count ≤ length b))
+      (λ b. (read_from step 1 first (whole n (take limit b)) ≡ Err bad) × (read_from step 1 first (lines n b) ≡ Err bad))
+      (λ b h. (
+        ap (λ t. read_from step 1 first (whole n (take limit t))) h.0.1 ∙ ap (λ t. read_from step 1 first (whole n t)) (take-longer limit text h.0.0 short)
+            ∙ ap (read_from step 1 first) (whole-append n text (take (limit - length text) h.0.0))
+            ∙ refused-more 1 first (whole n text) (whole n (open_end text ++ take (limit - length text) h.0.0)) bad here,
+        ap (λ t. read_from step 1 first (lines n t)) h.0.1 ∙ ap (read_from step 1 first) (lines-append n text h.0.0)
+            ∙ refused-more 1 first (whole n text) (lines n (open_end text ++ h.0.0)) bad here,
+      ))
       (HasFile-more files name so.bytes buf count given so.count so.front told)
-
-  pub FileStop-refused : (given count taken : ℕ) (first now : S) (w0 w1 : Waiting) (files : Option Files) (name buf : List ℕ) (before after : ℕ) (absent long : Type 0) (s : Stop)
-      → FileRead step n given taken first now w0 files name
-      → IfSome files (λ m. AnswersFor (m name) (Some count) given buf)
-      → ((b : List ℕ) → rest w0.line_bytes b ≡ w0.rest → Follows b (take count buf) w0 w1)
-      → LinesStop (read_from step (taken + 1) now w1.queue) s
-      → FileStop before after absent long (λ bad. HasFile files name (λ b. read_from step 1 first (lines n b) ≡ Err bad)) s
-  FileStop-refused given count taken first now w0 w1 files name buf before after absent long stop.Memory so told follows read = tt
-  FileStop-refused given count taken first now w0 w1 files name buf before after absent long (stop.Bad bad) so told follows read =
-      FileRead-refused given count taken first now w0 w1 files name buf bad so told follows read
-  FileStop-refused given count taken first now w0 w1 files name buf before after absent long stop.Read so told follows read = absurd read
-  FileStop-refused given count taken first now w0 w1 files name buf before after absent long stop.NoFile so told follows read = absurd read
-  FileStop-refused given count taken first now w0 w1 files name buf before after absent long stop.TooMuch so told follows read = absurd read
 
   -- the file goes on past the limit
   pub FileRead-longer : (given count taken : ℕ) (first now : S) (w : Waiting) (files : Option Files) (name buf : List ℕ)
@@ -192,50 +195,87 @@ module _ {S : Type 0} (step : ℕ → S → InputLine → Result S Bad) (n : ℕ
       → FileRead step n given taken first now w files name
       → IfSome files (λ m. AnswersFor (m name) (Some count) given buf) → count ≡ 0 → 0 < length buf
       → ((b : List ℕ) → rest w.line_bytes b ≡ w.rest → lines w.line_bytes b ≡ whole w.line_bytes b ++ last)
-      → HasFile files name (λ b. read_from step 1 first (lines n b) ≡ read_from step (taken + 1) now last)
+      → HasFile files name (λ b. (length b ≡ given) × (read_from step 1 first (lines n b) ≡ read_from step (taken + 1) now last))
   FileRead-end given count taken first now w files name buf last so told zero room ended =
       let so_rest : rest w.line_bytes so.bytes ≡ w.rest = ap (λ k. rest k so.bytes) so.limit ∙ sym so.rest in
       let all : lines n so.bytes ≡ whole n so.bytes ++ last = ap (λ k. lines k so.bytes) (sym so.limit) ∙ ended so.bytes so_rest ∙ ap (λ k. whole k so.bytes ++ last) so.limit in
-      HasFile-map files name (λ b. b ≡ so.bytes) (λ b. read_from step 1 first (lines n b) ≡ read_from step (taken + 1) now last)
-      (λ b e. ap (λ t. read_from step 1 first (lines n t)) e ∙ ap (read_from step 1 first) all ∙ taken-more 1 first now (whole n so.bytes) last so.taken ∙ ap (λ k. read_from step k now last) (omega (arith, so.number)))
+      HasFile-map files name (λ b. b ≡ so.bytes) (λ b. (length b ≡ given) × (read_from step 1 first (lines n b) ≡ read_from step (taken + 1) now last))
+      (λ b e. (
+        ap length e ∙ so.count,
+        ap (λ t. read_from step 1 first (lines n t)) e ∙ ap (read_from step 1 first) all ∙ taken-more 1 first now (whole n so.bytes) last so.taken ∙ ap (λ k. read_from step k now last) (omega (arith, so.number)),
+      ))
       (HasFile-end files name so.bytes buf count given so.count zero room so.front told)
 
-  pub FileRead-none : (given count taken : ℕ) (first now : S) (w : Waiting) (files : Option Files) (name buf : List ℕ)
-      → FileRead step n given taken first now w files name
-      → IfSome files (λ m. AnswersFor (m name) (Some count) given buf) → count ≡ 0 → 0 < length buf
-      → ((b : List ℕ) → rest w.line_bytes b ≡ w.rest → lines w.line_bytes b ≡ whole w.line_bytes b ++ [])
-      → HasFile files name (λ b. read_from step 1 first (lines n b) ≡ Ok now)
-  FileRead-none given count taken first now w files name buf so told zero room ended =
-      FileRead-end given count taken first now w files name buf [] so told zero room ended
-
   -- one line alone
-  one-line : (k : ℕ) (s : S) (line : InputLine) → read_from step k s (line ∷ []) ≡ step k s line
+  pub one-line : (k : ℕ) (s : S) (line : InputLine) → read_from step k s (line ∷ []) ≡ step k s line
   one-line k s line = by (step k s line)
     where
       by : (r : Result S Bad) → result_and_then (λ next. Ok next) r ≡ r
       by (Ok x) = refl
       by (Err e) = refl
 
-  pub FileRead-last : (given count taken : ℕ) (first now : S) (w : Waiting) (files : Option Files) (name buf : List ℕ) (line : InputLine) (r : Result S Bad)
-      → FileRead step n given taken first now w files name
-      → IfSome files (λ m. AnswersFor (m name) (Some count) given buf) → count ≡ 0 → 0 < length buf
-      → ((b : List ℕ) → rest w.line_bytes b ≡ w.rest → lines w.line_bytes b ≡ whole w.line_bytes b ++ line ∷ [])
-      → step (taken + 1) now line ≡ r
-      → HasFile files name (λ b. read_from step 1 first (lines n b) ≡ r)
-  FileRead-last given count taken first now w files name buf line r so told zero room ended e =
-      HasFile-map files name (λ b. read_from step 1 first (lines n b) ≡ read_from step (taken + 1) now (line ∷ [])) (λ b. read_from step 1 first (lines n b) ≡ r)
-      (λ b h. h ∙ one-line (taken + 1) now line ∙ e)
-      (FileRead-end given count taken first now w files name buf (line ∷ []) so told zero room ended)
+  -- the lines that were taken, with the last one
+  pub taken-last : (given taken : ℕ) (first now : S) (w : Waiting) (files : Option Files) (name : List ℕ) (line : InputLine) (last : S) → FileRead step n given taken first now w files name
+      → step (taken + 1) now line ≡ Ok last → (ls : List InputLine) × (read_from step 1 first ls ≡ Ok last)
+  taken-last given taken first now w files name line last so e = (
+    whole n so.bytes ++ line ∷ [],
+    taken-more 1 first now (whole n so.bytes) (line ∷ []) so.taken ∙ ap (λ k. read_from step k now (line ∷ [])) (omega (arith, so.number)) ∙ one-line (taken + 1) now line ∙ e,
+  )
 
-  pub FileStop-last : (given count taken : ℕ) (first now : S) (w : Waiting) (files : Option Files) (name buf : List ℕ) (line : InputLine) (before after : ℕ) (absent long : Type 0) (s : Stop)
-      → FileRead step n given taken first now w files name
-      → IfSome files (λ m. AnswersFor (m name) (Some count) given buf) → count ≡ 0 → 0 < length buf
+-- ---- what the file is read as
+
+module _ {S : Type 0} (step : ℕ → S → InputLine → Result S Bad) (limits : Limits) (bad : Bad → Verdict) where
+  -- a file that ends within the limit, and whose last lines come to this
+  pub ReadAs-end : (given count taken : ℕ) (first now : S) (w : Waiting) (files : Option Files) (name buf : List ℕ) (last : List InputLine) (r : Result S Bad)
+      → FileRead step limits.line_bytes given taken first now w files name
+      → IfSome files (λ m. AnswersFor (m name) (Some count) given buf) → count ≡ 0 → 0 < length buf → given ≤ limits.input_bytes
+      → ((b : List ℕ) → rest w.line_bytes b ≡ w.rest → lines w.line_bytes b ≡ whole w.line_bytes b ++ last)
+      → read_from step (taken + 1) now last ≡ r
+      → FileIs files name (read_as step limits first bad) (result_map_both (λ x. x) bad r)
+  ReadAs-end given count taken first now w files name buf last r so told zero room within ended e =
+      short-judged limits.input_bytes (λ b. read_from step 1 first (whole limits.line_bytes b)) (λ b. read_from step 1 first (lines limits.line_bytes b)) bad files name r
+      (HasFile-map files name (λ b. (length b ≡ given) × (read_from step 1 first (lines limits.line_bytes b) ≡ read_from step (taken + 1) now last))
+      (λ b. (length b ≤ limits.input_bytes) × (read_from step 1 first (lines limits.line_bytes b) ≡ r))
+      (λ b h. (omega (arith, h.0, within), h.1 ∙ e))
+      (FileRead-end step limits.line_bytes given count taken first now w files name buf last so told zero room ended))
+
+  pub StopWhere-last : (given count taken : ℕ) (first now : S) (w : Waiting) (files : Option Files) (name buf : List ℕ) (line : InputLine) (reads : Type 0) (s : Stop)
+      → FileRead step limits.line_bytes given taken first now w files name
+      → IfSome files (λ m. AnswersFor (m name) (Some count) given buf) → count ≡ 0 → 0 < length buf → given ≤ limits.input_bytes
       → ((b : List ℕ) → rest w.line_bytes b ≡ w.rest → lines w.line_bytes b ≡ whole w.line_bytes b ++ line ∷ [])
       → LinesStop (step (taken + 1) now line) s
-      → FileStop before after absent long (λ bad. HasFile files name (λ b. read_from step 1 first (lines n b) ≡ Err bad)) s
-  FileStop-last given count taken first now w files name buf line before after absent long stop.Memory so told zero room ended e = tt
-  FileStop-last given count taken first now w files name buf line before after absent long (stop.Bad bad) so told zero room ended e =
-      FileRead-last given count taken first now w files name buf line (Err bad) so told zero room ended e
-  FileStop-last given count taken first now w files name buf line before after absent long stop.Read so told zero room ended e = absurd e
-  FileStop-last given count taken first now w files name buf line before after absent long stop.NoFile so told zero room ended e = absurd e
-  FileStop-last given count taken first now w files name buf line before after absent long stop.TooMuch so told zero room ended e = absurd e
+      → StopWhere (λ v. FileIs files name (read_as step limits first bad) (Err v)) bad reads s
+  StopWhere-last given count taken first now w files name buf line reads stop.Memory so told zero room within ended e = tt
+  StopWhere-last given count taken first now w files name buf line reads (stop.Bad b) so told zero room within ended e =
+      ReadAs-end given count taken first now w files name buf (line ∷ []) (Err b) so told zero room within ended (one-line step limits.line_bytes (taken + 1) now line ∙ e)
+  StopWhere-last given count taken first now w files name buf line reads stop.Read so told zero room within ended e = absurd e
+  StopWhere-last given count taken first now w files name buf line reads stop.NoFile so told zero room within ended e = absurd e
+  StopWhere-last given count taken first now w files name buf line reads stop.TooMuch so told zero room within ended e = absurd e
+
+  pub StopWhere-refused : (given count taken : ℕ) (first now : S) (w0 w1 : Waiting) (files : Option Files) (name buf : List ℕ) (reads : Type 0) (s : Stop)
+      → FileRead step limits.line_bytes given taken first now w0 files name
+      → IfSome files (λ m. AnswersFor (m name) (Some count) given buf) → count ≡ length (take count buf) → given + count ≤ limits.input_bytes
+      → ((b : List ℕ) → rest w0.line_bytes b ≡ w0.rest → Follows b (take count buf) w0 w1)
+      → LinesStop (read_from step (taken + 1) now w1.queue) s
+      → StopWhere (λ v. FileIs files name (read_as step limits first bad) (Err v)) bad reads s
+  StopWhere-refused given count taken first now w0 w1 files name buf reads stop.Memory so told len within follows read = tt
+  StopWhere-refused given count taken first now w0 w1 files name buf reads (stop.Bad b) so told len within follows read =
+      refused-judged limits.input_bytes (λ b. read_from step 1 first (whole limits.line_bytes b)) (λ b. read_from step 1 first (lines limits.line_bytes b)) bad files name b
+      (FileRead-refused step limits.line_bytes limits.input_bytes given count taken first now w0 w1 files name buf b so told len within follows read)
+  StopWhere-refused given count taken first now w0 w1 files name buf reads stop.Read so told len within follows read = absurd read
+  StopWhere-refused given count taken first now w0 w1 files name buf reads stop.NoFile so told len within follows read = absurd read
+  StopWhere-refused given count taken first now w0 w1 files name buf reads stop.TooMuch so told len within follows read = absurd read
+
+  pub ReadAs-longer : (given count taken : ℕ) (first now : S) (w : Waiting) (files : Option Files) (name buf : List ℕ) → given ≡ limits.input_bytes
+      → FileRead step limits.line_bytes given taken first now w files name
+      → IfSome files (λ m. AnswersFor (m name) (Some count) given buf) → 0 < count
+      → FileIs files name (read_as step limits first bad) (Err TooMuch)
+  ReadAs-longer given count taken first now w files name buf full so told some =
+      longer-judged limits.input_bytes (λ b. read_from step 1 first (whole limits.line_bytes b)) (λ b. read_from step 1 first (lines limits.line_bytes b)) bad files name now
+      (FileRead-at_limit step limits.line_bytes limits.input_bytes given count taken first now w files name buf full so told some)
+
+  pub ReadAs-none : (first : S) (files0 files1 : Option Files) (name buf : List ℕ) (answer : Option ℕ) (from : ℕ) → files1 ≡ files0 → answer ≡ None
+      → IfSome files1 (λ m. AnswersFor (m name) answer from buf) → FileIs files0 name (read_as step limits first bad) (Err NoFile)
+  ReadAs-none first files0 files1 name buf answer from same is told =
+      no_file-judged limits.input_bytes (λ b. read_from step 1 first (whole limits.line_bytes b)) (λ b. read_from step 1 first (lines limits.line_bytes b)) bad files0 name buf from
+      (subst (λ (fs : Option Files). IfSome fs (λ m. AnswersFor (m name) None from buf)) same (subst (λ (a : Option ℕ). IfSome files1 (λ m. AnswersFor (m name) a from buf)) is told))

@@ -1,13 +1,13 @@
 -- What has been put of the blocks, and what waits in the report.
-use Rattle.std.proofs.Common.{◌≡◌, ℕ, ◌+◌, ◌≤◌, ◌<◌, Bool, true, false, cond, List, [], ◌∷◌, ◌++◌, length, refl, sym, ap, ◌∙◌, append_assoc, append-nil, length-append, arith, Option, None, Some, IfSome, Result, Ok, Err, OnOk, OnErr, take, drop, subst}
+use Rattle.std.proofs.Common.{◌≡◌, ℕ, ◌+◌, ◌≤◌, Bool, true, false, cond, List, [], ◌∷◌, ◌++◌, length, refl, sym, ap, ◌∙◌, append_assoc, append-nil, length-append, arith, Option, Result, Ok, Err, OnOk, OnErr, take, drop, subst}
 use Rattle.std.specs.List.{count_by}
 use Rattle.std.proofs.lemmas.List.{map-append, length-map}
 use Rattle.std.proofs.lemmas.List.Sums.{sum_by-cons}
-use Rattle.std.proofs.KnownBytes.{Consumes-nil, Consumes-trans, Consumes-whole, Appends-nil, Appends-trans}
-use Rattle.std.specs.Io.KnownBytes.{Appends, Consumes, IsAtEnd}
+use Rattle.std.proofs.KnownBytes.{Consumes-nil, Consumes-trans, Appends-nil, Appends-trans}
+use Rattle.std.specs.Io.KnownBytes.{Appends, Consumes}
 use Rattle.flux_outside.specs.Told.{AppendsFront}
 use Rattle.flux_model.specs.Grown.{GrewByFront}
-use Rattle.flux_model.specs.Lines.{InputLine, held, open_end, whole, rest, lines}
+use Rattle.flux_model.specs.Lines.{InputLine, held, whole, rest, lines}
 use Rattle.flux_model.specs.Reading.{update_reading}
 use Rattle.flux_model.specs.Graph.{Graph}
 use Rattle.flux_model.specs.Pattern.{PatternGraph}
@@ -18,13 +18,10 @@ use Rattle.flux_model.specs.declared.graph.Update.{Update}
 use Rattle.flux_model.specs.declared.limits.Limits.{Limits}
 use Rattle.stream_lines.specs.Waiting.{Waiting}
 use Rattle.stream_lines.specs.Follows.{Follows}
-use Rattle.stream_lines.proofs.CallerLemmas.{lines-append, length-whole, rest-nil}
+use Rattle.stream_lines.proofs.CallerLemmas.{length-whole, rest-nil}
 use Rattle.watch_cli.specs.Session.{WatchState, first_state, said_by, counted, after_said, after_all, next_block, next_blocks, end_text, last_text}
 use Rattle.watch_cli.specs.Wrote.{Wrote}
 use Rattle.watch_cli.specs.Progress.{Followed}
-use Rattle.watch_cli.specs.Halts.{WriteHalts, FollowHalts}
-use Rattle.watch_cli.specs.declared.halt.Halt.{Halt}
-use Rattle.watch_cli.specs.declared.halt.Halt.TheVariants as halt
 
 -- ---- the session, line by line
 
@@ -293,36 +290,19 @@ Followed-next n given count l0 l1 l2 p0 p1 p2 first now next w0 w1 w2 piece so r
       rest = ap (λ (w : Waiting). w.rest) passed ∙ add.1;
     }
 
--- a front part of the blocks of what was read is one of the text
-front_of_text : (n : ℕ) (l0 l1 p0 p1 : Option (List ℕ)) (first : WatchState) (b : List ℕ) → Consumes l0 l1 b → AppendsFront p0 p1 (next_blocks first (said_by (whole n b)))
-    → IfSome l0 (λ s. AppendsFront p0 p1 (last_text first (said_by (lines n s))))
-front_of_text n None l1 p0 p1 first b read front = tt
-front_of_text n (Some s) None p0 p1 first b read front = absurd read
-front_of_text n (Some s) (Some t) p0 p1 first b read front =
-    let more : List (Said Update) = said_by (lines n (open_end b ++ t)) in
-    let said : said_by (lines n s) ≡ said_by (whole n b) ++ more =
-    ap (λ z. said_by (lines n z)) read ∙ ap said_by (lines-append n b t) ∙ map-append update_reading (whole n b) (lines n (open_end b ++ t)) in
-    subst (AppendsFront p0 p1) (sym (ap (last_text first) said ∙ last_text-append first (said_by (whole n b)) more))
-    (AppendsFront-longer p0 p1 (next_blocks first (said_by (whole n b))) (last_text (after_all first (said_by (whole n b))) more) front)
-
-pub Followed-front : (n given : ℕ) (l0 l1 p0 p1 : Option (List ℕ)) (first now : WatchState) (w : Waiting) → Followed n given l0 l1 p0 p1 first now w
-    → IfSome l0 (λ s. AppendsFront p0 p1 (last_text first (said_by (lines n s))))
-Followed-front n given l0 l1 p0 p1 first now w so =
-    front_of_text n l0 l1 p0 p1 first so.bytes so.read (AppendsFront-all p0 p1 (next_blocks first (said_by (whole n so.bytes))) so.written)
-
-pub Followed-stops : (n given : ℕ) (l0 l1 l2 p0 p1 p2 : Option (List ℕ)) (first now : WatchState) (w0 w1 : Waiting) (piece : List ℕ) → Followed n given l0 l1 p0 p1 first now w0
-    → Consumes l1 l2 piece → ((b : List ℕ) → rest w0.line_bytes b ≡ w0.rest → Follows b piece w0 w1)
-    → AppendsFront p1 p2 (next_blocks now (said_by w1.queue)) → IfSome l0 (λ s. AppendsFront p0 p2 (last_text first (said_by (lines n s))))
-Followed-stops n given l0 l1 l2 p0 p1 p2 first now w0 w1 piece so read follows front =
+-- a front part of the blocks of the lines that a piece ends was put
+pub Followed-short : (n given : ℕ) (l0 l1 p0 p1 p2 : Option (List ℕ)) (first now : WatchState) (w0 w1 : Waiting) (piece : List ℕ) (so : Followed n given l0 l1 p0 p1 first now w0)
+    → ((b : List ℕ) → rest w0.line_bytes b ≡ w0.rest → Follows b piece w0 w1)
+    → AppendsFront p1 p2 (next_blocks now (said_by w1.queue)) → AppendsFront p0 p2 (next_blocks first (said_by (whole n (so.bytes ++ piece))))
+Followed-short n given l0 l1 p0 p1 p2 first now w0 w1 piece so follows front =
     let add = (pushed n given l0 l1 p0 p1 first now w0 w1 piece so follows).0 in
-    front_of_text n l0 l2 p0 p2 first (so.bytes ++ piece) (Consumes-trans l0 l1 l2 so.bytes piece so.read read)
-    (subst (AppendsFront p0 p2)
+    subst (AppendsFront p0 p2)
     (ap (λ (s : WatchState). next_blocks first (said_by (whole n so.bytes)) ++ next_blocks s (said_by w1.queue)) so.state
     ∙ sym (ap (next_blocks first) (said-pushed n so.bytes piece w1.queue add) ∙ next_blocks-append first (said_by (whole n so.bytes)) (said_by w1.queue)))
-    (AppendsFront-after p0 p1 p2 (next_blocks first (said_by (whole n so.bytes))) (next_blocks now (said_by w1.queue)) so.written front))
+    (AppendsFront-after p0 p1 p2 (next_blocks first (said_by (whole n so.bytes))) (next_blocks now (said_by w1.queue)) so.written front)
 
 -- the text of all that was read, where the source is at its end
-whole_text : (n given : ℕ) (l0 l1 p0 p1 : Option (List ℕ)) (first now : WatchState) (w : Waiting) (last : List InputLine) (so : Followed n given l0 l1 p0 p1 first now w)
+pub whole_text : (n given : ℕ) (l0 l1 p0 p1 : Option (List ℕ)) (first now : WatchState) (w : Waiting) (last : List InputLine) (so : Followed n given l0 l1 p0 p1 first now w)
     → ((b : List ℕ) → rest w.line_bytes b ≡ w.rest → lines w.line_bytes b ≡ whole w.line_bytes b ++ last)
     → next_blocks first (said_by (whole n so.bytes)) ++ last_text now (said_by last) ≡ last_text first (said_by (lines n so.bytes))
 whole_text n given l0 l1 p0 p1 first now w last so ended =
@@ -330,48 +310,3 @@ whole_text n given l0 l1 p0 p1 first now w last so ended =
     ap (λ k. lines k so.bytes) (sym so.limit) ∙ ended so.bytes (ap (λ k. rest k so.bytes) so.limit ∙ sym so.rest) ∙ ap (λ k. whole k so.bytes ++ last) so.limit in
     ap (λ (s : WatchState). next_blocks first (said_by (whole n so.bytes)) ++ last_text s (said_by last)) so.state
     ∙ sym (ap (λ ls. last_text first (said_by ls)) all ∙ ap (last_text first) (map-append update_reading (whole n so.bytes) last) ∙ last_text-append first (said_by (whole n so.bytes)) (said_by last))
-
--- nothing was read
-pub Consumes-none : (a b : Option (List ℕ)) (buf : List ℕ) (n : ℕ) → n ≡ 0 → Consumes a b (take n buf) → Consumes a b []
-Consumes-none a b buf n zero read = subst (λ (k : ℕ). Consumes a b (take k buf)) zero read
-
-pub Followed-end : (n given : ℕ) (l0 l1 l2 p0 p1 p2 : Option (List ℕ)) (first now : WatchState) (w : Waiting) (last : List InputLine) → Followed n given l0 l1 p0 p1 first now w
-    → Consumes l1 l2 [] → IsAtEnd l2
-    → ((b : List ℕ) → rest w.line_bytes b ≡ w.rest → lines w.line_bytes b ≡ whole w.line_bytes b ++ last)
-    → Appends p1 p2 (last_text now (said_by last)) → IfSome l0 (λ s. Appends p0 p2 (last_text first (said_by (lines n s))))
-Followed-end n given l0 l1 l2 p0 p1 p2 first now w last so read end ended put =
-    Consumes-whole l0 l2 so.bytes (λ s. Appends p0 p2 (last_text first (said_by (lines n s))))
-    (subst (Consumes l0 l2) (append-nil so.bytes) (Consumes-trans l0 l1 l2 so.bytes [] so.read read)) end
-    (subst (Appends p0 p2) (whole_text n given l0 l1 p0 p1 first now w last so ended)
-    (Appends-trans p0 p1 p2 (next_blocks first (said_by (whole n so.bytes))) (last_text now (said_by last)) so.written put))
-
-pub Followed-end_short : (n given : ℕ) (l0 l1 l2 p0 p1 p2 : Option (List ℕ)) (first now : WatchState) (w : Waiting) (last : List InputLine) → Followed n given l0 l1 p0 p1 first now w
-    → Consumes l1 l2 [] → IsAtEnd l2
-    → ((b : List ℕ) → rest w.line_bytes b ≡ w.rest → lines w.line_bytes b ≡ whole w.line_bytes b ++ last)
-    → AppendsFront p1 p2 (last_text now (said_by last)) → IfSome l0 (λ s. AppendsFront p0 p2 (last_text first (said_by (lines n s))))
-Followed-end_short n given l0 l1 l2 p0 p1 p2 first now w last so read end ended front =
-    Consumes-whole l0 l2 so.bytes (λ s. AppendsFront p0 p2 (last_text first (said_by (lines n s))))
-    (subst (Consumes l0 l2) (append-nil so.bytes) (Consumes-trans l0 l1 l2 so.bytes [] so.read read)) end
-    (subst (AppendsFront p0 p2) (whole_text n given l0 l1 p0 p1 first now w last so ended)
-    (AppendsFront-after p0 p1 p2 (next_blocks first (said_by (whole n so.bytes))) (last_text now (said_by last)) so.written front))
-
--- more was read than this
-pub read_more : (l0 l1 l2 : Option (List ℕ)) (b piece : List ℕ) (k : ℕ) → Consumes l0 l1 b → Consumes l1 l2 piece → k < length b + length piece → IfSome l0 (λ s. k < length s)
-read_more None l1 l2 b piece k p q lt = tt
-read_more (Some s) None l2 b piece k p q lt = absurd p
-read_more (Some s) (Some t) None b piece k p q lt = absurd q
-read_more (Some s) (Some t) (Some u) b piece k p q lt = omega (arith, ap length p, ap length q, length-append b t, length-append piece u)
-
-pub Followed-longer : (n given count k : ℕ) (l0 l1 l2 p0 p1 : Option (List ℕ)) (first now : WatchState) (w : Waiting) (piece : List ℕ) → Followed n given l0 l1 p0 p1 first now w
-    → Consumes l1 l2 piece → count ≡ length piece → k < given + count → IfSome l0 (λ s. k < length s)
-Followed-longer n given count k l0 l1 l2 p0 p1 first now w piece so read len lt = read_more l0 l1 l2 so.bytes piece k so.read read (omega (arith, so.count, len, lt))
-
--- why writing ends a run is why following does
-pub FollowHalts-write : (r0 r1 w0 w1 w2 : ℕ) (long : Type 0) (h : Halt) → w0 ≤ w1 → WriteHalts w1 w2 h → FollowHalts r0 r1 w0 w2 long h
-FollowHalts-write r0 r1 w0 w1 w2 long halt.Memory le e = tt
-FollowHalts-write r0 r1 w0 w1 w2 long halt.Write le e = omega arith
-FollowHalts-write r0 r1 w0 w1 w2 long halt.Read le e = absurd e
-FollowHalts-write r0 r1 w0 w1 w2 long halt.NoFile le e = absurd e
-FollowHalts-write r0 r1 w0 w1 w2 long halt.TooMuch le e = absurd e
-FollowHalts-write r0 r1 w0 w1 w2 long (halt.BadGraph bad) le e = absurd e
-FollowHalts-write r0 r1 w0 w1 w2 long (halt.BadPatterns bad) le e = absurd e

@@ -1,172 +1,233 @@
--- What was written, and why a run halts.
-use Rattle.std.proofs.Common.{◌≡◌, ◌⊎◌, ◌≤◌, ◌<◌, ℕ, List, [], length, Option, None, Some, Result, Ok, Err, IsOk, IfSome, MatchOption, OnOk, OnErr, inl, inr, refl, ap, ◌∙◌, subst, arith}
+-- How a run ends, from how its parts do.
+use Rattle.std.proofs.Common.{◌≡◌, ◌⊎◌, ◌≤◌, ℕ, List, [], Option, None, Some, Result, Ok, Err, IsOk, IfSome, OnOk, OnErr, inl, inr, refl, sym, ap, ◌∙◌, subst, arith}
 use Rattle.std.specs.Io.KnownBytes.{Appends}
-use Rattle.std.proofs.KnownBytes.{Appends-nil}
+use Rattle.std.proofs.KnownBytes.{Appends-nil, Consumes-nil}
 use Rattle.flux_outside.specs.Causes.{Rose}
 use Rattle.flux_outside.specs.Told.{Files, AppendsFront}
-use Rattle.flux_model.specs.Lines.{lines}
+use Rattle.flux_model.specs.FileReading.{result_and_then}
 use Rattle.flux_model.specs.Graph.{Graph}
 use Rattle.flux_model.specs.Pattern.{PatternGraph}
-use Rattle.flux_model.specs.GraphFile.{graph_of}
-use Rattle.flux_model.specs.PatternFile.{patterns_of}
-use Rattle.flux_model.specs.declared.code.Bad.{Bad}
+use Rattle.flux_model.specs.Verdict.{Shape, Watch, Match, Save, Verdict, Accepted, Watched, Matched, Saved, Ending, graph_file, pattern_file, ending_with, ends_with, ending_for, blocks_of, written_before}
+use Rattle.flux_model.specs.Verdict as verdict
 use Rattle.flux_model.specs.declared.limits.Limits.{Limits}
-use Rattle.watch_cli.specs.Words.{Shape, Watch, updates_read}
-use Rattle.watch_cli.specs.Files.{HasFile, IsAbsent, IsLonger, IsGoodGraph}
-use Rattle.watch_cli.specs.Session.{WatchState, first_state, said_by, last_text}
-use Rattle.watch_cli.specs.Due.{text_for, due_text, WritesAll, WritesFront, HasAccepted}
-use Rattle.watch_cli.specs.Stops.{FileStop}
-use Rattle.watch_cli.specs.Halts.{halt_of, IsBadGraph, IsBadPatterns, OneAbsent, FollowHalts, HaltsWhere}
+use Rattle.stream_lines.proofs.CallerLemmas.{whole-nil}
+use Rattle.watch_cli.specs.Words.{ReadsUpdates}
+use Rattle.watch_cli.specs.Files.{FileIs}
+use Rattle.watch_cli.specs.Ends.{Held, verdict_of, inputs, written_of, EndsAs, EndsBefore, EndsAtFault, RunEndsAs, RunEndsBefore, ReadFails, StatusWhere}
+use Rattle.watch_cli.specs.Halts.{HaltWhere}
+use Rattle.watch_cli.specs.declared.status.Status.{Status}
+use Rattle.watch_cli.specs.declared.status.Status.TheVariants as status
 use Rattle.watch_cli.specs.declared.halt.Halt.{Halt}
-use Rattle.watch_cli.specs.declared.stop.Stop.{Stop}
-use Rattle.watch_cli.specs.declared.stop.Stop.TheVariants as stop
 use Rattle.watch_cli.specs.declared.halt.Halt.TheVariants as halt
-use Rattle.watch_cli.proofs.FileLemmas.{HasFile-map}
-use Rattle.watch_cli.proofs.ReportLemmas.{AppendsFront-nothing, AppendsFront-all, last_text-first}
+use Rattle.watch_cli.proofs.ReportLemmas.{AppendsFront-nothing}
+use Rattle.watch_cli.proofs.FollowLemmas.{Held-map, Held-any, EndsAs-before}
 
--- ---- the files that are accepted
+-- ---- what the files are accepted as
 
--- the graph of the file, and the limits that it is kept under
-abbrev pub IsGraphOf : Limits → Limits → Graph → List ℕ → Type 0
-IsGraphOf limits kept g bytes = (graph_of limits bytes ≡ Ok g) × (kept ≡ limits)
+-- the words and the files come to this
+abbrev pub Judged : Limits → Option Files → Option Shape → Result Accepted Verdict → Type 0
+Judged limits files asked r = IfSome files (λ m. inputs limits m asked ≡ r)
 
-pub graph_of-told : (o : Option (List ℕ)) (limits kept : Limits) (g : Graph) → MatchOption o ⊥ (IsGraphOf limits kept g) → MatchOption o ⊥ (λ b. graph_of limits b ≡ Ok g) × (kept ≡ limits)
-graph_of-told None limits kept g h = absurd h
-graph_of-told (Some b) limits kept g h = h
+pub save-judged : (limits : Limits) (files : Option Files) (name : List ℕ) (g : Graph) → FileIs files name (graph_file limits) (Ok g) → Judged limits files (Some (Save name)) (Ok (Saved g))
+save-judged limits None name g h = tt
+save-judged limits (Some m) name g h = ap (result_and_then (λ g. Ok (Saved g))) h
 
-is_ok-from : {T : Type 0} (r : Result T Bad) (x : T) → r ≡ Ok x → IsOk r
-is_ok-from r x e = rw e refl
+pub save-refused : (limits : Limits) (files : Option Files) (name : List ℕ) (v : Verdict) → FileIs files name (graph_file limits) (Err v) → Judged limits files (Some (Save name)) (Err v)
+save-refused limits None name v h = tt
+save-refused limits (Some m) name v h = ap (result_and_then (λ g. Ok (Saved g))) h
 
-pub good_graph : (limits kept : Limits) (files : Option Files) (name : List ℕ) (g : Graph) → HasFile files name (IsGraphOf limits kept g) → IsGoodGraph limits files name
-good_graph limits kept files name g a =
-    HasFile-map files name (IsGraphOf limits kept g) (λ x. IsOk (graph_of limits x)) (λ x e. is_ok-from (graph_of limits x) g e.0) a
+-- `watch` and `match` have two files
+module _ (made : Graph → List PatternGraph → Accepted) (shape : Shape) (graph patterns : List ℕ) where
+  abbrev both : Result Graph Verdict → Result (List PatternGraph) Verdict → Result Accepted Verdict
+  both r t = result_and_then (λ g. result_and_then (λ qs. Ok (made g qs)) t) r
 
-pub HasAccepted-from : (limits kept : Limits) (files : Option Files) (graph patterns : List ℕ) (g : Graph) (qs : List PatternGraph)
-    → HasFile files graph (IsGraphOf limits kept g) → HasFile files patterns (λ b. patterns_of limits b ≡ Ok qs) → HasAccepted limits files (Watch graph patterns)
-HasAccepted-from limits kept files graph patterns g qs a b = (
-  good_graph limits kept files graph g a,
-  HasFile-map files patterns (λ x. patterns_of limits x ≡ Ok qs) (λ x. IsOk (patterns_of limits x)) (λ x e. is_ok-from (patterns_of limits x) qs e) b,
-)
+  abbrev AreTheFiles : Limits → Type 0
+  AreTheFiles limits = (m : Files) → inputs limits m (Some shape) ≡ both (graph_file limits (m graph)) (pattern_file limits (m patterns))
 
--- what was told at first is told later
-pub HasFile-same : (files0 files1 : Option Files) (name : List ℕ) (P : List ℕ → Type 0) → files1 ≡ files0 → HasFile files1 name P → HasFile files0 name P
-HasFile-same files0 files1 name P e h = subst (λ (fs : Option Files). HasFile fs name P) e h
+  pub both-judged : (limits : Limits) (files files1 : Option Files) (g : Graph) (qs : List PatternGraph) → AreTheFiles limits → files1 ≡ files
+      → FileIs files graph (graph_file limits) (Ok g) → FileIs files1 patterns (pattern_file limits) (Ok qs) → Judged limits files (Some shape) (Ok (made g qs))
+  both-judged limits None files1 g qs are same h k = tt
+  both-judged limits (Some m) files1 g qs are same h k =
+      let p : pattern_file limits (m patterns) ≡ Ok qs = subst (λ (fs : Option Files). FileIs fs patterns (pattern_file limits) (Ok qs)) same k in
+      are m ∙ ap (λ r. both r (pattern_file limits (m patterns))) h ∙ ap (both (Ok g)) p
 
--- ---- the text that is due
+  pub graph-judged : (limits : Limits) (files : Option Files) (v : Verdict) → AreTheFiles limits → FileIs files graph (graph_file limits) (Err v) → Judged limits files (Some shape) (Err v)
+  graph-judged limits None v are h = tt
+  graph-judged limits (Some m) v are h = are m ∙ ap (λ r. both r (pattern_file limits (m patterns))) h
 
-due-is : (limits : Limits) (m : Files) (graph patterns : List ℕ) (s : List ℕ) (g : Graph) (qs : List PatternGraph)
-    → MatchOption (m graph) ⊥ (λ b. graph_of limits b ≡ Ok g) → MatchOption (m patterns) ⊥ (λ b. patterns_of limits b ≡ Ok qs) → due_text limits m (Watch graph patterns) s ≡ Some (text_for limits g qs s)
-due-is limits m graph patterns s g qs a b = by (m graph) (m patterns) refl refl a b
+  pub patterns-judged : (limits : Limits) (files files1 : Option Files) (g : Graph) (v : Verdict) → AreTheFiles limits → files1 ≡ files
+      → FileIs files graph (graph_file limits) (Ok g) → FileIs files1 patterns (pattern_file limits) (Err v) → Judged limits files (Some shape) (Err v)
+  patterns-judged limits None files1 g v are same h k = tt
+  patterns-judged limits (Some m) files1 g v are same h k =
+      let p : pattern_file limits (m patterns) ≡ Err v = subst (λ (fs : Option Files). FileIs fs patterns (pattern_file limits) (Err v)) same k in
+      are m ∙ ap (λ r. both r (pattern_file limits (m patterns))) h ∙ ap (both (Ok g)) p
+
+-- ---- what is written by then
+
+ending-is : (limits : Limits) (m : Files) (shape : Shape) (s : List ℕ) (r : Result Accepted Verdict) → inputs limits m (Some shape) ≡ r → ending_for limits m (Some shape) s ≡ ends_with (ending_with limits s) r
+ending-is limits m shape s r e = ap (ends_with (ending_with limits s)) e
+
+-- the run ends at its files, and nothing was written
+pub run-stops : (limits : Limits) (files : Option Files) (shape : Shape) (left put : Option (List ℕ)) (v : Verdict) → Judged limits files (Some shape) (Err v) → RunEndsAs limits files (Some shape) left put put v
+run-stops limits None shape left put v h = tt
+run-stops limits (Some m) shape left put v h =
+    Held-any left (λ s. ((ending_for limits m (Some shape) s).verdict ≡ v) × Appends put put (ending_for limits m (Some shape) s).text)
+    (λ s.
+    let is = ending-is limits m shape s (Err v) h in
+    (ap (λ (e : Ending). e.verdict) is, subst (Appends put put) (sym (ap (λ (e : Ending). e.text) is)) (Appends-nil put)))
+
+-- nothing was written yet
+pub run-before : (limits : Limits) (files : Option Files) (asked : Option Shape) (left put : Option (List ℕ)) → RunEndsBefore limits files asked left put put
+run-before limits None asked left put = tt
+run-before limits (Some m) asked left put =
+    Held-any left (λ s. AppendsFront put put (ending_for limits m asked s).text) (λ s. AppendsFront-nothing put (ending_for limits m asked s).text)
+
+-- the run goes on over its files
+pub run-ends : (limits : Limits) (files : Option Files) (shape : Shape) (left p0 p1 : Option (List ℕ)) (a : Accepted) (v : Verdict) → Judged limits files (Some shape) (Ok a)
+    → EndsAs left (λ s. ending_with limits s a) p0 p1 v → RunEndsAs limits files (Some shape) left p0 p1 v
+run-ends limits None shape left p0 p1 a v h e = tt
+run-ends limits (Some m) shape left p0 p1 a v h e =
+    Held-map left (λ s. ((ending_with limits s a).verdict ≡ v) × Appends p0 p1 (ending_with limits s a).text)
+    (λ s. ((ending_for limits m (Some shape) s).verdict ≡ v) × Appends p0 p1 (ending_for limits m (Some shape) s).text)
+    (λ s so.
+    let is = ending-is limits m shape s (Ok a) h in
+    (ap (λ (e : Ending). e.verdict) is ∙ so.0, subst (Appends p0 p1) (sym (ap (λ (e : Ending). e.text) is)) so.1)) e
+
+pub run-ends_before : (limits : Limits) (files : Option Files) (shape : Shape) (left p0 p1 : Option (List ℕ)) (a : Accepted) → Judged limits files (Some shape) (Ok a)
+    → EndsBefore left (λ s. ending_with limits s a) p0 p1 → RunEndsBefore limits files (Some shape) left p0 p1
+run-ends_before limits None shape left p0 p1 a h e = tt
+run-ends_before limits (Some m) shape left p0 p1 a h e =
+    Held-map left (λ s. AppendsFront p0 p1 (ending_with limits s a).text) (λ s. AppendsFront p0 p1 (ending_for limits m (Some shape) s).text)
+    (λ s so. subst (AppendsFront p0 p1) (sym (ap (λ (e : Ending). e.text) (ending-is limits m shape s (Ok a) h))) so) e
+
+pub run-either : (r : Result (Unit {0}) Halt) (limits : Limits) (files : Option Files) (shape : Shape) (left p0 p1 : Option (List ℕ)) (a : Accepted) → Judged limits files (Some shape) (Ok a)
+    → OnOk r (EndsAs left (λ s. ending_with limits s a) p0 p1 verdict.Done) → OnErr r (EndsBefore left (λ s. ending_with limits s a) p0 p1) → RunEndsBefore limits files (Some shape) left p0 p1
+run-either (Ok _) limits files shape left p0 p1 a h all front = run-ends_before limits files shape left p0 p1 a h (EndsAs-before left (λ s. ending_with limits s a) p0 p1 verdict.Done all)
+run-either (Err _) limits files shape left p0 p1 a h all front = run-ends_before limits files shape left p0 p1 a h front
+
+-- ---- why a read fails
+
+written-nothing : (limits : Limits) (r : Result Accepted Verdict) → written_of limits r [] ≡ []
+written-nothing limits (Ok (Watched g qs)) = ap (blocks_of limits g qs) (whole-nil limits.line_bytes)
+written-nothing limits (Ok (Matched g qs)) = refl
+written-nothing limits (Ok (Saved g)) = refl
+written-nothing limits (Err v) = refl
+
+-- the shelf's count rose
+pub shelf-fails : (limits : Limits) (files : Option Files) (shape : Shape) (f0 f1 r0 r1 : ℕ) (left put : Option (List ℕ)) → Rose f0 f1 → ReadFails limits files (Some shape) f0 f1 r0 r1 left left put put
+shelf-fails limits files shape f0 f1 r0 r1 left put rose = record {
+  cause = inl rose;
+  accepted = λ not. absurd (not rose);
+  written = by files;
+}
   where
-    by : (x y : Option (List ℕ)) → m graph ≡ x → m patterns ≡ y → MatchOption x ⊥ (λ b. graph_of limits b ≡ Ok g) → MatchOption y ⊥ (λ b. patterns_of limits b ≡ Ok qs) → due_text limits m (Watch graph patterns) s ≡ Some (text_for limits g qs s)
-    by None y e f a b = absurd a
-    by (Some x) None e f a b = absurd b
-    by (Some x) (Some y) e f a b = rw (e, f, a, b) refl
-
-text-is : (limits : Limits) (g : Graph) (qs : List PatternGraph) (first : WatchState) (s : List ℕ) → first ≡ first_state limits g qs → last_text first (said_by (lines limits.line_bytes s)) ≡ text_for limits g qs s
-text-is limits g qs first s is = ap (λ f. last_text f (said_by (lines limits.line_bytes s))) is ∙ last_text-first limits g qs (said_by (lines limits.line_bytes s))
-
-first-told : (limits kept : Limits) (g : Graph) (qs : List PatternGraph) (first : WatchState) → first ≡ first_state kept g qs → kept ≡ limits → first ≡ first_state limits g qs
-first-told limits kept g qs first is e = is ∙ ap (λ l. first_state l g qs) e
-
-pub WritesAll-from : (limits kept : Limits) (files : Option Files) (graph patterns : List ℕ) (left p0 p1 : Option (List ℕ)) (g : Graph) (qs : List PatternGraph) (first : WatchState) → first ≡ first_state kept g qs
-    → HasFile files graph (IsGraphOf limits kept g) → HasFile files patterns (λ b. patterns_of limits b ≡ Ok qs)
-    → IfSome left (λ s. Appends p0 p1 (last_text first (said_by (lines limits.line_bytes s)))) → WritesAll limits files (Watch graph patterns) left p0 p1
-WritesAll-from limits kept None graph patterns left p0 p1 g qs first is a b put = tt
-WritesAll-from limits kept (Some m) graph patterns None p0 p1 g qs first is a b put = tt
-WritesAll-from limits kept (Some m) graph patterns (Some s) p0 p1 g qs first is a b put =
-    let t = graph_of-told (m graph) limits kept g a in
-    rw (due-is limits m graph patterns s g qs t.0 b) (subst (Appends p0 p1) (text-is limits g qs first s (first-told limits kept g qs first is t.1)) put)
-
-pub WritesFront-from : (limits kept : Limits) (files : Option Files) (graph patterns : List ℕ) (left p0 p1 : Option (List ℕ)) (g : Graph) (qs : List PatternGraph) (first : WatchState) → first ≡ first_state kept g qs
-    → HasFile files graph (IsGraphOf limits kept g) → HasFile files patterns (λ b. patterns_of limits b ≡ Ok qs)
-    → IfSome left (λ s. AppendsFront p0 p1 (last_text first (said_by (lines limits.line_bytes s)))) → WritesFront limits files (Watch graph patterns) left p0 p1
-WritesFront-from limits kept None graph patterns left p0 p1 g qs first is a b front = tt
-WritesFront-from limits kept (Some m) graph patterns None p0 p1 g qs first is a b front = tt
-WritesFront-from limits kept (Some m) graph patterns (Some s) p0 p1 g qs first is a b front =
-    let t = graph_of-told (m graph) limits kept g a in
-    rw (due-is limits m graph patterns s g qs t.0 b) (subst (AppendsFront p0 p1) (text-is limits g qs first s (first-told limits kept g qs first is t.1)) front)
-
-pub WritesFront-all : (limits : Limits) (files : Option Files) (shape : Shape) (left p0 p1 : Option (List ℕ)) → WritesAll limits files shape left p0 p1 → WritesFront limits files shape left p0 p1
-WritesFront-all limits None shape left p0 p1 all = tt
-WritesFront-all limits (Some m) shape left p0 p1 all = by (updates_read shape left) all
-  where
-    by_due : (o : Option (List ℕ)) → MatchOption o ⊥ (λ text. Appends p0 p1 text) → MatchOption o (Appends p0 p1 []) (λ text. AppendsFront p0 p1 text)
-    by_due None h = absurd h
-    by_due (Some text) h = AppendsFront-all p0 p1 text h
-
-    by : (o : Option (List ℕ)) → IfSome o (λ s. MatchOption (due_text limits m shape s) ⊥ (λ text. Appends p0 p1 text)) → IfSome o (λ s. MatchOption (due_text limits m shape s) (Appends p0 p1 []) (λ text. AppendsFront p0 p1 text))
-    by None h = tt
-    by (Some s) h = by_due (due_text limits m shape s) h
-
-pub WritesFront-nothing : (limits : Limits) (files : Option Files) (shape : Shape) (left put : Option (List ℕ)) → WritesFront limits files shape left put put
-WritesFront-nothing limits None shape left put = tt
-WritesFront-nothing limits (Some m) shape left put = by (updates_read shape left)
-  where
-    by_due : (o : Option (List ℕ)) → MatchOption o (Appends put put []) (λ text. AppendsFront put put text)
-    by_due None = Appends-nil put
-    by_due (Some text) = AppendsFront-nothing put text
-
-    by : (o : Option (List ℕ)) → IfSome o (λ s. MatchOption (due_text limits m shape s) (Appends put put []) (λ text. AppendsFront put put text))
+    by : (o : Option Files) → IfSome o (λ m. EndsAtFault left left (written_of limits (inputs limits m (Some shape))) put put)
     by None = tt
-    by (Some s) = by_due (due_text limits m shape s)
+    by (Some m) = ([], Consumes-nil left, subst (Appends put put) (sym (written-nothing limits (inputs limits m (Some shape)))) (Appends-nil put))
 
--- the front of the text that stands when the updates have been followed
-pub WritesFront-either : (r : Result (Unit {0}) Halt) (limits kept : Limits) (files : Option Files) (graph patterns : List ℕ) (left p0 p1 : Option (List ℕ)) (g : Graph) (qs : List PatternGraph) (first : WatchState) → first ≡ first_state kept g qs
-    → HasFile files graph (IsGraphOf limits kept g) → HasFile files patterns (λ b. patterns_of limits b ≡ Ok qs)
-    → OnOk r (IfSome left (λ s. Appends p0 p1 (last_text first (said_by (lines limits.line_bytes s)))))
-    → OnErr r (IfSome left (λ s. AppendsFront p0 p1 (last_text first (said_by (lines limits.line_bytes s))))) → WritesFront limits files (Watch graph patterns) left p0 p1
-WritesFront-either (Ok _) limits kept files graph patterns left p0 p1 g qs first is a b put front =
-    WritesFront-all limits files (Watch graph patterns) left p0 p1 (WritesAll-from limits kept files graph patterns left p0 p1 g qs first is a b put)
-WritesFront-either (Err _) limits kept files graph patterns left p0 p1 g qs first is a b put front = WritesFront-from limits kept files graph patterns left p0 p1 g qs first is a b front
+-- that of the updates rose
+pub updates-fail : (limits : Limits) (files : Option Files) (shape : Shape) (f0 f1 r0 r1 : ℕ) (l0 l1 p0 p1 : Option (List ℕ)) (a : Accepted) → Judged limits files (Some shape) (Ok a) → ReadsUpdates shape
+    → Rose r0 r1 → EndsAtFault l0 l1 (written_before limits a) p0 p1 → ReadFails limits files (Some shape) f0 f1 r0 r1 l0 l1 p0 p1
+updates-fail limits files shape f0 f1 r0 r1 l0 l1 p0 p1 a h reads rose fault = record {
+  cause = inr (reads, rose);
+  accepted = λ not. good files h;
+  written = by files h;
+}
+  where
+    good : (o : Option Files) → Judged limits o (Some shape) (Ok a) → IfSome o (λ m. IsOk (inputs limits m (Some shape)))
+    good None h = tt
+    good (Some m) h = rw h refl
+
+    by : (o : Option Files) → Judged limits o (Some shape) (Ok a) → IfSome o (λ m. EndsAtFault l0 l1 (written_of limits (inputs limits m (Some shape))) p0 p1)
+    by None h = tt
+    by (Some m) h = (fault.0, fault.1, subst (Appends p0 p1) (sym (ap (λ r. written_of limits r fault.0) h)) fault.2)
 
 -- ---- why the run halts
 
-pub graph-halts : (limits : Limits) (files : Option Files) (graph patterns : List ℕ) (left : Option (List ℕ)) (f0 f1 r0 r1 w0 w1 : ℕ) (s : Stop)
-    → FileStop f0 f1 (IsAbsent files graph) (IsLonger files graph limits.input_bytes) (λ bad. HasFile files graph (λ b. graph_of limits b ≡ Err bad)) s
-    → HaltsWhere limits files (Watch graph patterns) left (Rose f0 f1 ⊎ Rose r0 r1) (Rose w0 w1) (halt_of halt.BadGraph s)
-graph-halts limits files graph patterns left f0 f1 r0 r1 w0 w1 stop.Memory h = tt
-graph-halts limits files graph patterns left f0 f1 r0 r1 w0 w1 stop.Read h = inl h
-graph-halts limits files graph patterns left f0 f1 r0 r1 w0 w1 stop.NoFile h = inl h
-graph-halts limits files graph patterns left f0 f1 r0 r1 w0 w1 stop.TooMuch h = inl h
-graph-halts limits files graph patterns left f0 f1 r0 r1 w0 w1 (stop.Bad bad) h = h
+HaltWhere-map : (ends ends1 : Verdict → Type 0) (reads reads1 writes writes1 : Type 0) (h : Halt) → ((v : Verdict) → ends v → ends1 v) → (reads → reads1) → (writes → writes1)
+    → HaltWhere ends reads writes h → HaltWhere ends1 reads1 writes1 h
+HaltWhere-map ends ends1 reads reads1 writes writes1 halt.Memory e r w so = tt
+HaltWhere-map ends ends1 reads reads1 writes writes1 halt.Read e r w so = r so
+HaltWhere-map ends ends1 reads reads1 writes writes1 halt.Write e r w so = w so
+HaltWhere-map ends ends1 reads reads1 writes writes1 halt.NoFile e r w so = e verdict.NoFile so
+HaltWhere-map ends ends1 reads reads1 writes writes1 halt.TooMuch e r w so = e verdict.TooMuch so
+HaltWhere-map ends ends1 reads reads1 writes writes1 (halt.BadGraph bad) e r w so = e (verdict.BadGraph bad) so
+HaltWhere-map ends ends1 reads reads1 writes writes1 (halt.BadPatterns bad) e r w so = e (verdict.BadPatterns bad) so
 
-patterns-halts-same : (limits : Limits) (files : Option Files) (graph patterns : List ℕ) (left : Option (List ℕ)) (f0 f1 f2 r0 r1 w0 w1 : ℕ) (s : Stop) → IsGoodGraph limits files graph → f0 ≤ f1
-    → FileStop f1 f2 (IsAbsent files patterns) (IsLonger files patterns limits.input_bytes) (λ bad. HasFile files patterns (λ b. patterns_of limits b ≡ Err bad)) s
-    → HaltsWhere limits files (Watch graph patterns) left (Rose f0 f2 ⊎ Rose r0 r1) (Rose w0 w1) (halt_of halt.BadPatterns s)
-patterns-halts-same limits files graph patterns left f0 f1 f2 r0 r1 w0 w1 stop.Memory good le h = tt
-patterns-halts-same limits files graph patterns left f0 f1 f2 r0 r1 w0 w1 stop.Read good le h = inl (omega arith)
-patterns-halts-same limits files graph patterns left f0 f1 f2 r0 r1 w0 w1 stop.NoFile good le h = inr h
-patterns-halts-same limits files graph patterns left f0 f1 f2 r0 r1 w0 w1 stop.TooMuch good le h = inr (inl h)
-patterns-halts-same limits files graph patterns left f0 f1 f2 r0 r1 w0 w1 (stop.Bad bad) good le h = (good, h)
+-- a file ends it
+pub file-halts : (limits : Limits) (files : Option Files) (shape : Shape) (f0 f1 f2 r0 r1 : ℕ) (left put : Option (List ℕ)) (refuses : Verdict → Type 0) (writes : Type 0) (h : Halt)
+    → ((v : Verdict) → refuses v → Judged limits files (Some shape) (Err v)) → f0 ≤ f1
+    → HaltWhere refuses (Rose f1 f2) ⊥ h
+    → HaltWhere (RunEndsAs limits files (Some shape) left put put) (ReadFails limits files (Some shape) f0 f2 r0 r1 left left put put) writes h
+file-halts limits files shape f0 f1 f2 r0 r1 left put refuses writes h judged le so =
+    HaltWhere-map refuses (RunEndsAs limits files (Some shape) left put put) (Rose f1 f2) (ReadFails limits files (Some shape) f0 f2 r0 r1 left left put put) ⊥ writes h
+    (λ v e. run-stops limits files shape left put v (judged v e)) (λ rose. shelf-fails limits files shape f0 f2 r0 r1 left put (omega arith)) (λ never. absurd never) so
 
-pub patterns-halts : (limits kept : Limits) (files files1 : Option Files) (graph patterns : List ℕ) (left : Option (List ℕ)) (f0 f1 f2 r0 r1 w0 w1 : ℕ) (s : Stop) (g : Graph)
-    → HasFile files graph (IsGraphOf limits kept g) → f0 ≤ f1 → files1 ≡ files
-    → FileStop f1 f2 (IsAbsent files1 patterns) (IsLonger files1 patterns limits.input_bytes) (λ bad. HasFile files1 patterns (λ b. patterns_of limits b ≡ Err bad)) s
-    → HaltsWhere limits files (Watch graph patterns) left (Rose f0 f2 ⊎ Rose r0 r1) (Rose w0 w1) (halt_of halt.BadPatterns s)
-patterns-halts limits kept files files1 graph patterns left f0 f1 f2 r0 r1 w0 w1 s g a le e h =
-    patterns-halts-same limits files graph patterns left f0 f1 f2 r0 r1 w0 w1 s (good_graph limits kept files graph g a) le
-    (subst (λ (fs : Option Files). FileStop f1 f2 (IsAbsent fs patterns) (IsLonger fs patterns limits.input_bytes) (λ bad. HasFile fs patterns (λ b. patterns_of limits b ≡ Err bad)) s) e h)
+-- following the updates ends it
+pub follow-halts : (limits : Limits) (files : Option Files) (shape : Shape) (f0 f1 r0 r1 w0 w1 : ℕ) (l0 l1 p0 p1 : Option (List ℕ)) (a : Accepted) (h : Halt) → Judged limits files (Some shape) (Ok a) → ReadsUpdates shape
+    → HaltWhere (EndsAs l0 (λ s. ending_with limits s a) p0 p1) (Rose r0 r1 × EndsAtFault l0 l1 (written_before limits a) p0 p1) (Rose w0 w1) h
+    → HaltWhere (RunEndsAs limits files (Some shape) l0 p0 p1) (ReadFails limits files (Some shape) f0 f1 r0 r1 l0 l1 p0 p1) (Rose w0 w1) h
+follow-halts limits files shape f0 f1 r0 r1 w0 w1 l0 l1 p0 p1 a h judged reads so =
+    HaltWhere-map (EndsAs l0 (λ s. ending_with limits s a) p0 p1) (RunEndsAs limits files (Some shape) l0 p0 p1)
+    (Rose r0 r1 × EndsAtFault l0 l1 (written_before limits a) p0 p1) (ReadFails limits files (Some shape) f0 f1 r0 r1 l0 l1 p0 p1) (Rose w0 w1) (Rose w0 w1) h
+    (λ v e. run-ends limits files shape l0 p0 p1 a v judged e) (λ e. updates-fail limits files shape f0 f1 r0 r1 l0 l1 p0 p1 a judged reads e.0 e.1) (λ e. e) so
 
-pub updates-halts : (limits : Limits) (files : Option Files) (graph patterns : List ℕ) (left : Option (List ℕ)) (f0 f1 r0 r1 w0 w1 : ℕ) (h : Halt)
-    → FollowHalts r0 r1 w0 w1 (IfSome left (λ s. limits.input_bytes < length s)) h → HaltsWhere limits files (Watch graph patterns) left (Rose f0 f1 ⊎ Rose r0 r1) (Rose w0 w1) h
-updates-halts limits files graph patterns left f0 f1 r0 r1 w0 w1 halt.Memory e = tt
-updates-halts limits files graph patterns left f0 f1 r0 r1 w0 w1 halt.Read e = inr e
-updates-halts limits files graph patterns left f0 f1 r0 r1 w0 w1 halt.Write e = e
-updates-halts limits files graph patterns left f0 f1 r0 r1 w0 w1 halt.NoFile e = absurd e
-updates-halts limits files graph patterns left f0 f1 r0 r1 w0 w1 halt.TooMuch e = inr (inr e)
-updates-halts limits files graph patterns left f0 f1 r0 r1 w0 w1 (halt.BadGraph bad) e = absurd e
-updates-halts limits files graph patterns left f0 f1 r0 r1 w0 w1 (halt.BadPatterns bad) e = absurd e
+-- putting a text ends it
+pub put-halts : (limits : Limits) (files : Option Files) (shape : Shape) (reads : Type 0) (w0 w1 : ℕ) (left p0 p1 : Option (List ℕ)) (h : Halt) → HaltWhere (λ v. ⊥) ⊥ (Rose w0 w1) h
+    → HaltWhere (RunEndsAs limits files (Some shape) left p0 p1) reads (Rose w0 w1) h
+put-halts limits files shape reads w0 w1 left p0 p1 h so =
+    HaltWhere-map (λ v. ⊥) (RunEndsAs limits files (Some shape) left p0 p1) ⊥ reads (Rose w0 w1) (Rose w0 w1) h (λ v never. absurd never) (λ never. absurd never) (λ e. e) so
 
--- ---- a refused file is not among the ends of a run whose files are accepted
+-- a text that is due whatever the updates are
+pub text-put : (left : Option (List ℕ)) (ending : List ℕ → Ending) (text : List ℕ) (p0 p1 : Option (List ℕ)) → ((s : List ℕ) → ending s ≡ record { verdict = verdict.Done; text = text }) → Appends p0 p1 text → EndsAs left ending p0 p1 verdict.Done
+text-put left ending text p0 p1 is put =
+    Held-any left (λ s. ((ending s).verdict ≡ verdict.Done) × Appends p0 p1 (ending s).text)
+    (λ s. (ap (λ (e : Ending). e.verdict) (is s), subst (Appends p0 p1) (sym (ap (λ (e : Ending). e.text) (is s))) put))
 
-pub never-bad_graph : (o : Option Shape) (shape : Shape) (limits : Limits) (files : Option Files) (left : Option (List ℕ)) (reads writes : Type 0) (h : Halt) (bad : Bad) (Ends : Shape → Type 0)
-    → o ≡ Some shape → h ≡ halt.BadGraph bad → HaltsWhere limits files shape left reads writes h → IfSome o (λ n. ¬ OneAbsent files n → ((b : Bad) → ¬ IsBadGraph limits files n b) → Ends n)
-never-bad_graph o shape limits files left reads writes h bad Ends e is at_halt =
-    rw e (λ there good. absurd (good bad (subst (λ (x : Halt). HaltsWhere limits files shape left reads writes x) is at_halt)))
+pub text-front : (left : Option (List ℕ)) (ending : List ℕ → Ending) (text : List ℕ) (p0 p1 : Option (List ℕ)) → ((s : List ℕ) → ending s ≡ record { verdict = verdict.Done; text = text }) → AppendsFront p0 p1 text → EndsBefore left ending p0 p1
+text-front left ending text p0 p1 is front =
+    Held-any left (λ s. AppendsFront p0 p1 (ending s).text) (λ s. subst (AppendsFront p0 p1) (sym (ap (λ (e : Ending). e.text) (is s))) front)
 
-pub never-bad_patterns : (o : Option Shape) (shape : Shape) (limits : Limits) (files : Option Files) (left : Option (List ℕ)) (reads writes : Type 0) (h : Halt) (bad : Bad) (Ends : Shape → Type 0)
-    → o ≡ Some shape → h ≡ halt.BadPatterns bad → HaltsWhere limits files shape left reads writes h
-    → IfSome o (λ n. ¬ OneAbsent files n → ((b : Bad) → ¬ IsBadGraph limits files n b) → ((b : Bad) → ¬ IsBadPatterns limits files n b) → Ends n)
-never-bad_patterns o shape limits files left reads writes h bad Ends e is at_halt =
-    rw e (λ there good_graph good_patterns. absurd (good_patterns bad (subst (λ (x : Halt). HaltsWhere limits files shape left reads writes x) is at_halt)))
+-- ---- the status
+
+pub status-verdict : (ends : Verdict → Type 0) (reads writes : Type 0) (s : Status) → StatusWhere ends reads writes s → IfSome (verdict_of s) ends
+status-verdict ends reads writes status.Memory so = tt
+status-verdict ends reads writes status.ReadFault so = tt
+status-verdict ends reads writes status.WriteFault so = tt
+status-verdict ends reads writes status.Done so = so
+status-verdict ends reads writes status.Usage so = so
+status-verdict ends reads writes status.NoFile so = so
+status-verdict ends reads writes status.TooMuch so = so
+status-verdict ends reads writes (status.BadGraph line why) so = so
+status-verdict ends reads writes (status.BadPatterns line why) so = so
+
+pub status-reads : (ends : Verdict → Type 0) (reads writes : Type 0) (s : Status) → StatusWhere ends reads writes s → s ≡ status.ReadFault → reads
+status-reads ends reads writes s so is = subst (StatusWhere ends reads writes) is so
+
+pub status-writes : (ends : Verdict → Type 0) (reads writes : Type 0) (s : Status) → StatusWhere ends reads writes s → s ≡ status.WriteFault → writes
+status-writes ends reads writes s so is = subst (StatusWhere ends reads writes) is so
+
+-- where no count rose, the run ended with the verdict or for want of memory
+pub status-complete : (limits : Limits) (files : Option Files) (asked : Option Shape) (left p0 p1 : Option (List ℕ)) (reads writes rose : Type 0) (s : Status) → (reads → rose)
+    → StatusWhere (RunEndsAs limits files asked left p0 p1) reads writes s
+    → IfSome files (λ m. Held left (λ b. ¬ rose → ¬ writes → (verdict_of s ≡ Some (ending_for limits m asked b).verdict) ⊎ (s ≡ status.Memory)))
+status-complete limits None asked left p0 p1 reads writes rose s cause so = tt
+status-complete limits (Some m) asked left p0 p1 reads writes rose s cause so = by s so
+  where
+    Complete : Status → List ℕ → Type 0
+    Complete s b = ¬ rose → ¬ writes → (verdict_of s ≡ Some (ending_for limits m asked b).verdict) ⊎ (s ≡ status.Memory)
+
+    told : (s : Status) (v : Verdict) → verdict_of s ≡ Some v → EndsAs left (ending_for limits m asked) p0 p1 v → Held left (Complete s)
+    told s v is e =
+        Held-map left (λ b. ((ending_for limits m asked b).verdict ≡ v) × Appends p0 p1 (ending_for limits m asked b).text) (Complete s) (λ b so not_read not_written. inl (is ∙ ap Some (sym so.0))) e
+
+    by : (s : Status) → StatusWhere (RunEndsAs limits (Some m) asked left p0 p1) reads writes s → Held left (Complete s)
+    by status.Memory so = Held-any left (Complete status.Memory) (λ b not_read not_written. inr refl)
+    by status.ReadFault so = Held-any left (Complete status.ReadFault) (λ b not_read not_written. absurd (not_read (cause so)))
+    by status.WriteFault so = Held-any left (Complete status.WriteFault) (λ b not_read not_written. absurd (not_written so))
+    by status.Done so = told status.Done verdict.Done refl so
+    by status.Usage so = told status.Usage verdict.Usage refl so
+    by status.NoFile so = told status.NoFile verdict.NoFile refl so
+    by status.TooMuch so = told status.TooMuch verdict.TooMuch refl so
+    by (status.BadGraph line why) so = told (status.BadGraph line why) (verdict.BadGraph (record { line = line; code = why })) refl so
+    by (status.BadPatterns line why) so = told (status.BadPatterns line why) (verdict.BadPatterns (record { line = line; code = why })) refl so

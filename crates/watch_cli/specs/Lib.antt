@@ -5,8 +5,8 @@ pub mod Session
 pub mod Answer
 pub mod Deltas
 pub mod Wrote
-pub mod Due
 pub mod Stops
 pub mod Halts
+pub mod Ends
 pub mod Progress
 pub mod Taking

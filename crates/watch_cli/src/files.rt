@@ -1,11 +1,14 @@
 //! Files, read piece by piece and line by line.
 ghost use Rattle.std.specs.Prelude.{◌≡◌, ◌≤◌, ◌<◌, ◌+◌, ◌^◌, [], false, List, ℕ, length, take, Ok, Err, OnOk, IfErr, IfOk};
-ghost use Rattle.flux_model.specs.Lines.{whole, lines};
+ghost use Rattle.flux_model.specs.Lines.{InputLine};
 ghost use Rattle.flux_model.specs.Seen.{seen_line};
 ghost use Rattle.flux_model.specs.Limits.{IsFair};
 ghost use Rattle.flux_model.specs.FileReading.{read_from};
-ghost use Rattle.watch_cli.specs.Files.{HasFile, IsAbsent};
-ghost use Rattle.watch_cli.specs.Stops.{LinesStop, FileStop};
+ghost use Rattle.flux_model.specs.Verdict.{Verdict};
+ghost use Rattle.flux_model.specs.declared.code.Bad.{Bad};
+ghost use Rattle.flux_outside.specs.Causes.{Rose};
+ghost use Rattle.watch_cli.specs.Files.{FileIs};
+ghost use Rattle.watch_cli.specs.Stops.{read_as, LinesStop, StopWhere};
 
 use crate::piece::{ask_for, make_buffer};
 use crate::stop::Stop;
@@ -58,7 +61,7 @@ fn take_waiting<T: TakeLine>(
     Ok(number)
 }
 
-/// Takes every line of the file of this name.
+/// Takes every line of the file of this name. The contract speaks of any name, `bad`, that the refusal of a line may have.
 pub fn read_file<F: Shelf, T: TakeLine>(
     alloc: Global,
     limits: &Limits,
@@ -68,17 +71,14 @@ pub fn read_file<F: Shelf, T: TakeLine>(
 ) -> Result<(), Stop>
     requires fair { IsFair limits.now }
     requires ready { T.is_spent file.old ≡ false }
-    ensures ok { OnOk result (HasFile (F.files shelf.old) name.now (λ bytes.
-        read_from T.after_line 1 file.old (lines limits.now.line_bytes bytes) ≡ Ok file.new)) }
+    ensures ok { OnOk result ((bad : Bad → Verdict) → FileIs (F.files shelf.old) name.now (read_as T.after_line limits.now file.old bad) (Ok file.new)) }
+    ensures taken { OnOk result ((lines : List InputLine) × (read_from T.after_line 1 file.old lines ≡ Ok file.new)) }
     ensures ready { OnOk result (T.is_spent file.new ≡ false) }
     ensures same { F.files shelf.new ≡ F.files shelf.old }
     ensures later { F.faults shelf.old ≤ F.faults shelf.new }
-    ensures stop { IfErr result (FileStop (F.faults shelf.old) (F.faults shelf.new)
-        (IsAbsent (F.files shelf.old) name.now)
-        (HasFile (F.files shelf.old) name.now (λ bytes. (limits.now.input_bytes < length bytes)
-        × (read_from T.after_line 1 file.old (whole limits.now.line_bytes (take limits.now.input_bytes bytes)) ≡ Ok file.new)))
-        (λ bad. HasFile (F.files shelf.old) name.now (λ bytes.
-        read_from T.after_line 1 file.old (lines limits.now.line_bytes bytes) ≡ Err bad))) }
+    ensures stop { IfErr result (λ stop. (bad : Bad → Verdict) → StopWhere
+        (λ verdict. FileIs (F.files shelf.old) name.now (read_as T.after_line limits.now file.old bad) (Err verdict))
+        bad (Rose (F.faults shelf.old) (F.faults shelf.new)) stop) }
 {
     let mut lines = Lines::new(alloc, limits.line_bytes);
     let Ok(mut buffer) = make_buffer(alloc) else {

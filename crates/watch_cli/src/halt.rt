@@ -1,6 +1,6 @@
 //! Why a run ends before it is done.
 ghost use Rattle.std.specs.Prelude.{◌≡◌};
-ghost use Rattle.watch_cli.specs.Halts.{halt_of};
+ghost use Rattle.watch_cli.specs.Halts.{halt_of, refused_as};
 
 use crate::stop::Stop;
 use flux_model::Bad;
@@ -24,32 +24,27 @@ pub enum Halt {
     BadPatterns(Bad),
 }
 
+/// The files that a run reads.
+#[derive(Clone, Copy)]
+pub enum InputFile {
+    Graph,
+    Patterns,
+}
+
 impl Halt {
-    ghost use Rattle.watch_cli.specs.declared.halt.Halt.TheVariants as halt;
-
-    /// Why the run ends where the reading of the graph file stopped.
-    pub fn of_graph(stop: Stop) -> Halt
-        ensures { result ≡ halt_of halt.BadGraph stop }
+    /// Why the run ends where the reading of this file stopped.
+    pub fn of(file: InputFile, stop: Stop) -> Halt
+        ensures { result ≡ halt_of (refused_as file) stop }
     {
         match stop {
             Stop::Memory => Halt::Memory,
             Stop::Read => Halt::Read,
             Stop::NoFile => Halt::NoFile,
             Stop::TooMuch => Halt::TooMuch,
-            Stop::Bad(bad) => Halt::BadGraph(bad),
-        }
-    }
-
-    /// Why the run ends where the reading of the pattern file stopped.
-    pub fn of_patterns(stop: Stop) -> Halt
-        ensures { result ≡ halt_of halt.BadPatterns stop }
-    {
-        match stop {
-            Stop::Memory => Halt::Memory,
-            Stop::Read => Halt::Read,
-            Stop::NoFile => Halt::NoFile,
-            Stop::TooMuch => Halt::TooMuch,
-            Stop::Bad(bad) => Halt::BadPatterns(bad),
+            Stop::Bad(bad) => match file {
+                InputFile::Graph => Halt::BadGraph(bad),
+                InputFile::Patterns => Halt::BadPatterns(bad),
+            },
         }
     }
 }

@@ -1,18 +1,18 @@
 //! `save`: the graph file is read into a store, and the text of its graph is put.
-ghost use Rattle.std.specs.Prelude.{◌≡◌, ◌≤◌, None, List, ℕ, Option, OnOk, OnErr, IfErr};
+ghost use Rattle.std.specs.Prelude.{◌≡◌, ◌≤◌, Some, List, ℕ, Option, OnOk, OnErr, IfErr};
 ghost use Rattle.std.specs.Io.KnownBytes.{Appends};
 ghost use Rattle.flux_outside.specs.Causes.{Rose};
 ghost use Rattle.flux_outside.specs.Told.{AppendsFront};
 ghost use Rattle.flux_model.specs.Graph.{empty_graph};
 ghost use Rattle.flux_model.specs.GraphText.{graph_text};
 ghost use Rattle.flux_model.specs.Limits.{IsFair};
-ghost use Rattle.watch_cli.specs.Words.{Save};
-ghost use Rattle.watch_cli.specs.Due.{WritesAll, WritesFront, HasAccepted};
-ghost use Rattle.watch_cli.specs.Halts.{WriteHalts, HaltsWhere};
+ghost use Rattle.flux_model.specs.Verdict.{Save, Done};
+ghost use Rattle.watch_cli.specs.Ends.{RunEndsAs, RunEndsBefore, ReadFails};
+ghost use Rattle.watch_cli.specs.Halts.{WriteHalts, HaltWhere};
 
 use crate::halt::Halt;
+use crate::inputs::read_store;
 use crate::report::put_report;
-use crate::store_file::read_store;
 use flux_model::{Ledger, Limits, Steps};
 use flux_outside::{Shelf, Sink};
 use label_graph::{KeepGraph, ReadGraph};
@@ -32,16 +32,17 @@ pub fn save_graph<F: Shelf, G: KeepGraph + ReadGraph<L>, W: Sink, L: Ledger>(
     requires fair { IsFair limits.now }
     requires limits { G.limits empty ≡ limits.now }
     requires empty { G.graph empty ≡ empty_graph }
-    ensures accepted { OnOk result (HasAccepted limits.now (F.files shelf.old) (Save name.now)) }
-    ensures ok { OnOk result (WritesAll limits.now (F.files shelf.old) (Save name.now) None (W.taken out.old) (W.taken out.new)) }
-    ensures front { WritesFront limits.now (F.files shelf.old) (Save name.now) None (W.taken out.old) (W.taken out.new) }
-    ensures halt { (left : Option (List ℕ)) → IfErr result (HaltsWhere limits.now (F.files shelf.old) (Save name.now) left
-        (Rose (F.faults shelf.old) (F.faults shelf.new)) (Rose (W.faults out.old) (W.faults out.new))) }
+    ensures ok { (left : Option (List ℕ)) → OnOk result (RunEndsAs limits.now (F.files shelf.old) (Some (Save name.now))
+        left (W.taken out.old) (W.taken out.new) Done) }
+    ensures front { (left : Option (List ℕ)) → RunEndsBefore limits.now (F.files shelf.old) (Some (Save name.now))
+        left (W.taken out.old) (W.taken out.new) }
+    ensures halt { (left : Option (List ℕ)) (read : ℕ) → IfErr result (HaltWhere
+        (RunEndsAs limits.now (F.files shelf.old) (Some (Save name.now)) left (W.taken out.old) (W.taken out.new))
+        (ReadFails limits.now (F.files shelf.old) (Some (Save name.now))
+        (F.faults shelf.old) (F.faults shelf.new) read read left left (W.taken out.old) (W.taken out.new))
+        (Rose (W.faults out.old) (W.faults out.new))) }
 {
-    let graph = match read_store(alloc, limits, shelf, name, empty) {
-        Ok(graph) => graph,
-        Err(stop) => return Err(Halt::of_graph(stop)),
-    };
+    let graph = read_store(alloc, limits, shelf, name, empty)?;
     put_graph(alloc, &graph, out, steps)
 }
 

@@ -7,9 +7,9 @@ use flux_outside::{MemShelf, MemSink, MemSource};
 use std::alloc::{AllocError, Global};
 use std::test::Fail;
 
-const GRAPH: &[u8] = b"v 1 A\nv 2 B\n";
+pub const GRAPH: &[u8] = b"v 1 A\nv 2 B\n";
 
-const PATTERN: &[u8] = b"p ab hom\nv 0 A\nv 1 B\ne 0 1 r\n";
+pub const PATTERN: &[u8] = b"p ab hom\nv 0 A\nv 1 B\ne 0 1 r\n";
 
 const PATHS: &[u8] =
     b"p path hom\nv 0\nv 1\nv 2\ne 0 1 r\ne 1 2 r\np ipath iso\nv 0\nv 1\nv 2\ne 0 1 r\ne 1 2 r\np loop hom\nv 0\ne 0 0 r\n";
@@ -35,7 +35,7 @@ pub struct Outcome {
     pub err: MemSink,
 }
 
-fn words_of(alloc: Global, words: &[&str]) -> Result<Vec<String>, AllocError> {
+pub fn words_of(alloc: Global, words: &[&str]) -> Result<Vec<String>, AllocError> {
     let mut all = Vec::new(alloc);
     for word in words {
         all.push(String::from_str(alloc, word)?)?;
@@ -44,7 +44,7 @@ fn words_of(alloc: Global, words: &[&str]) -> Result<Vec<String>, AllocError> {
 }
 
 /// A shelf with a graph file `g` and a pattern file `p`.
-fn shelf_of(alloc: Global, graph: &[u8], patterns: &[u8]) -> Result<MemShelf, AllocError> {
+pub fn shelf_of(alloc: Global, graph: &[u8], patterns: &[u8]) -> Result<MemShelf, AllocError> {
     let mut shelf = MemShelf::new(alloc);
     shelf.add("g", graph)?;
     shelf.add("p", patterns)?;
@@ -301,7 +301,7 @@ fn words_of_no_shape(rt: HostRuntime) -> Result<(), Fail> {
         &[],
         &["watch", "g"],
         &["demo", "x"],
-        &["match", "g", "p"],
+        &["match", "g"],
         &["save"],
         &["save", "g", "p"],
         &["Save", "g"],

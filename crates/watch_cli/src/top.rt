@@ -1,15 +1,16 @@
 //! The one call that the program makes.
-ghost use Rattle.std.specs.Prelude.{◌≡◌, ◌⊎◌, ◌↔◌, [], None, OnOk, IfErr, IfSome, MatchOption};
+ghost use Rattle.std.specs.Prelude.{◌≡◌, ◌⊎◌, ◌↔◌, None, Some, IsOk, OnOk, IfErr, IfSome, MatchOption};
 ghost use Rattle.std.specs.Io.KnownBytes.{Appends, IsAtEnd};
 ghost use Rattle.flux_outside.specs.Causes.{Rose};
 ghost use Rattle.flux_outside.specs.Told.{AppendsFront};
 ghost use Rattle.flux_model.specs.Limits.{IsFair};
-ghost use Rattle.flux_model.specs.declared.code.Bad.{Bad};
-ghost use Rattle.watch_cli.specs.Words.{shape_of, seen_shape, texts, updates_read, IfUnread};
-ghost use Rattle.watch_cli.specs.Status.{status_text, IfBadGraph, IfBadPatterns};
-ghost use Rattle.watch_cli.specs.Due.{WritesAll, WritesFront, HasAccepted};
-ghost use Rattle.watch_cli.specs.Halts.{HaltsWhere, OneAbsent, OneLonger, OneRose, IsBadGraph, IsBadPatterns};
+ghost use Rattle.flux_model.specs.Verdict.{shape_of, verdict, due, Done};
+ghost use Rattle.watch_cli.specs.Words.{seen_shape, texts, ReadsUpdates};
+ghost use Rattle.watch_cli.specs.Status.{status_text};
+ghost use Rattle.watch_cli.specs.Ends.{Held, verdict_of, inputs, written_of, OneRose, EndsAtFault, RunEndsAs, RunEndsBefore, ReadFails, StatusWhere};
+ghost use Rattle.watch_cli.specs.Halts.{HaltWhere};
 
+use crate::answers::list_answers;
 use crate::halt::Halt;
 use crate::save::save_graph;
 use crate::status::Status;
@@ -45,18 +46,25 @@ fn work<F: Shelf, S: Source, W: Sink, L: Ledger>(
     steps: &mut Steps<L>,
 ) -> Result<(), Halt>
     requires { IsFair limits.now }
-    ensures end { OnOk result (IsAtEnd (updates_read (seen_shape shape.entry) (S.left updates.new))) }
-    ensures unread { IfUnread (seen_shape shape.entry) (updates.new ≡ updates.old) }
-    ensures accepted { OnOk result (HasAccepted limits.now (F.files shelf.old) (seen_shape shape.entry)) }
-    ensures ok { OnOk result (WritesAll limits.now (F.files shelf.old) (seen_shape shape.entry) (S.left updates.old) (W.taken out.old) (W.taken out.new)) }
-    ensures front { WritesFront limits.now (F.files shelf.old) (seen_shape shape.entry) (S.left updates.old) (W.taken out.old) (W.taken out.new) }
-    ensures halt { IfErr result (HaltsWhere limits.now (F.files shelf.old) (seen_shape shape.entry) (S.left updates.old)
-        (OneRose (seen_shape shape.entry) (F.faults shelf.old) (F.faults shelf.new) (S.faults updates.old) (S.faults updates.new))
+    ensures end { OnOk result (ReadsUpdates (seen_shape shape.entry) → IsAtEnd (S.left updates.new)) }
+    ensures unread { ¬ ReadsUpdates (seen_shape shape.entry) → updates.new ≡ updates.old }
+    ensures ok { OnOk result (RunEndsAs limits.now (F.files shelf.old) (Some (seen_shape shape.entry))
+        (S.left updates.old) (W.taken out.old) (W.taken out.new) Done) }
+    ensures front { RunEndsBefore limits.now (F.files shelf.old) (Some (seen_shape shape.entry)) (S.left updates.old) (W.taken out.old) (W.taken out.new) }
+    ensures halt { IfErr result (HaltWhere
+        (RunEndsAs limits.now (F.files shelf.old) (Some (seen_shape shape.entry)) (S.left updates.old) (W.taken out.old) (W.taken out.new))
+        (ReadFails limits.now (F.files shelf.old) (Some (seen_shape shape.entry))
+        (F.faults shelf.old) (F.faults shelf.new) (S.faults updates.old) (S.faults updates.new)
+        (S.left updates.old) (S.left updates.new) (W.taken out.old) (W.taken out.new))
         (Rose (W.faults out.old) (W.faults out.new))) }
 {
     match shape {
         Shape::Watch { graph, patterns } => {
             watch_updates(alloc, limits, graph, patterns, shelf, updates, out)
+        }
+        Shape::Match { graph, patterns } => {
+            let empty = LabelGraph::new(alloc, limits);
+            list_answers(alloc, limits, graph, patterns, empty, shelf, out, steps)
         }
         Shape::Save { graph } => {
             let empty = LabelGraph::new(alloc, limits);
@@ -77,26 +85,15 @@ fn judge<F: Shelf, S: Source, W: Sink, L: Ledger>(
 ) -> Status
     requires { IsFair limits.now }
     ensures usage { (result ≡ Status.Usage) ↔ (shape_of (texts words.now) ≡ None) }
-    ensures no_file { result ≡ Status.NoFile → IfSome (shape_of (texts words.now)) (OneAbsent (F.files shelf.old)) }
-    ensures bad_graph { IfBadGraph result (λ bad. IfSome (shape_of (texts words.now)) (λ shape. IsBadGraph limits.now (F.files shelf.old) shape bad)) }
-    ensures bad_patterns { IfBadPatterns result (λ bad. IfSome (shape_of (texts words.now)) (λ shape. IsBadPatterns limits.now (F.files shelf.old) shape bad)) }
-    ensures too_much { result ≡ Status.TooMuch → IfSome (shape_of (texts words.now)) (λ shape.
-        OneLonger (F.files shelf.old) shape (S.left updates.old) limits.now.input_bytes) }
-    ensures read_fault { result ≡ Status.ReadFault → IfSome (shape_of (texts words.now)) (λ shape.
-        OneRose shape (F.faults shelf.old) (F.faults shelf.new) (S.faults updates.old) (S.faults updates.new)) }
-    ensures write_fault { result ≡ Status.WriteFault → Rose (W.faults out.old) (W.faults out.new) }
-    ensures end { result ≡ Status.Done → IfSome (shape_of (texts words.now)) (λ shape. IsAtEnd (updates_read shape (S.left updates.new))) }
-    ensures unread { MatchOption (shape_of (texts words.now)) (updates.new ≡ updates.old) (λ shape. IfUnread shape (updates.new ≡ updates.old)) }
-    ensures accepted { result ≡ Status.Done → IfSome (shape_of (texts words.now)) (HasAccepted limits.now (F.files shelf.old)) }
-    ensures done { result ≡ Status.Done → IfSome (shape_of (texts words.now)) (λ shape.
-        WritesAll limits.now (F.files shelf.old) shape (S.left updates.old) (W.taken out.old) (W.taken out.new)) }
-    ensures front { MatchOption (shape_of (texts words.now)) (Appends (W.taken out.old) (W.taken out.new) []) (λ shape.
-        WritesFront limits.now (F.files shelf.old) shape (S.left updates.old) (W.taken out.old) (W.taken out.new)) }
-    ensures complete { IfSome (shape_of (texts words.now)) (λ shape. ¬ OneAbsent (F.files shelf.old) shape
-        → ((bad : Bad) → ¬ IsBadGraph limits.now (F.files shelf.old) shape bad) → ((bad : Bad) → ¬ IsBadPatterns limits.now (F.files shelf.old) shape bad)
-        → ¬ OneLonger (F.files shelf.old) shape (S.left updates.old) limits.now.input_bytes
-        → ¬ OneRose shape (F.faults shelf.old) (F.faults shelf.new) (S.faults updates.old) (S.faults updates.new)
-        → ¬ Rose (W.faults out.old) (W.faults out.new) → (result ≡ Status.Done) ⊎ (result ≡ Status.Memory)) }
+    ensures end { result ≡ Status.Done → IfSome (shape_of (texts words.now)) (λ shape. ReadsUpdates shape → IsAtEnd (S.left updates.new)) }
+    ensures unread { MatchOption (shape_of (texts words.now)) (updates.new ≡ updates.old) (λ shape. ¬ ReadsUpdates shape → updates.new ≡ updates.old) }
+    ensures front { RunEndsBefore limits.now (F.files shelf.old) (shape_of (texts words.now)) (S.left updates.old) (W.taken out.old) (W.taken out.new) }
+    ensures status { StatusWhere
+        (RunEndsAs limits.now (F.files shelf.old) (shape_of (texts words.now)) (S.left updates.old) (W.taken out.old) (W.taken out.new))
+        (ReadFails limits.now (F.files shelf.old) (shape_of (texts words.now))
+        (F.faults shelf.old) (F.faults shelf.new) (S.faults updates.old) (S.faults updates.new)
+        (S.left updates.old) (S.left updates.new) (W.taken out.old) (W.taken out.new))
+        (Rose (W.faults out.old) (W.faults out.new)) result }
 {
     let Some(shape) = parse_shape(words) else {
         return Status::Usage;
@@ -130,7 +127,9 @@ fn tell<E: Sink>(status: Status, err: &mut E)
 /// `watch GRAPH PATTERNS` reads the two files, takes the updates line by line, and writes the block of each line and at last the end
 /// line to `out`. Each input is read in pieces of at most 64 KiB. The blocks of all whole lines of a piece are put before the next read.
 ///
-/// `save GRAPH` reads the graph file, and writes the one text of its graph to `out`, in one piece. It takes nothing of the updates.
+/// `match GRAPH PATTERNS` reads the two files, and writes all embeddings and how many these are to `out`, in one piece.
+///
+/// `save GRAPH` reads the graph file, and writes the one text of its graph to `out`, in one piece. `match` and `save` take nothing of the updates.
 pub fn run<F: Shelf, S: Source, W: Sink, E: Sink, L: Ledger>(
     alloc: Global,
     words: &[String],
@@ -143,26 +142,23 @@ pub fn run<F: Shelf, S: Source, W: Sink, E: Sink, L: Ledger>(
 ) -> Ended
     requires { IsFair limits.now }
     ensures usage { (result.status ≡ Status.Usage) ↔ (shape_of (texts words.now) ≡ None) }
-    ensures no_file { result.status ≡ Status.NoFile → IfSome (shape_of (texts words.now)) (OneAbsent (F.files shelf.old)) }
-    ensures bad_graph { IfBadGraph result.status (λ bad. IfSome (shape_of (texts words.now)) (λ shape. IsBadGraph limits.now (F.files shelf.old) shape bad)) }
-    ensures bad_patterns { IfBadPatterns result.status (λ bad. IfSome (shape_of (texts words.now)) (λ shape. IsBadPatterns limits.now (F.files shelf.old) shape bad)) }
-    ensures too_much { result.status ≡ Status.TooMuch → IfSome (shape_of (texts words.now)) (λ shape.
-        OneLonger (F.files shelf.old) shape (S.left updates.old) limits.now.input_bytes) }
-    ensures read_fault { result.status ≡ Status.ReadFault → IfSome (shape_of (texts words.now)) (λ shape.
-        OneRose shape (F.faults shelf.old) (F.faults shelf.new) (S.faults updates.old) (S.faults updates.new)) }
+    ensures verdict { IfSome (verdict_of result.status) (λ v. IfSome (F.files shelf.old) (λ m. Held (S.left updates.old) (λ s.
+        (verdict limits.now m (texts words.now) s ≡ v) × Appends (W.taken out.old) (W.taken out.new) (due limits.now m (texts words.now) s)))) }
+    ensures complete { IfSome (F.files shelf.old) (λ m. Held (S.left updates.old) (λ s.
+        ¬ OneRose (shape_of (texts words.now)) (F.faults shelf.old) (F.faults shelf.new) (S.faults updates.old) (S.faults updates.new)
+        → ¬ Rose (W.faults out.old) (W.faults out.new)
+        → (verdict_of result.status ≡ Some (verdict limits.now m (texts words.now) s)) ⊎ (result.status ≡ Status.Memory))) }
+    ensures front { IfSome (F.files shelf.old) (λ m. Held (S.left updates.old) (λ s.
+        AppendsFront (W.taken out.old) (W.taken out.new) (due limits.now m (texts words.now) s))) }
+    ensures read_fault { result.status ≡ Status.ReadFault
+        → OneRose (shape_of (texts words.now)) (F.faults shelf.old) (F.faults shelf.new) (S.faults updates.old) (S.faults updates.new) }
+    ensures read_accepted { result.status ≡ Status.ReadFault → ¬ Rose (F.faults shelf.old) (F.faults shelf.new)
+        → IfSome (F.files shelf.old) (λ m. IsOk (inputs limits.now m (shape_of (texts words.now)))) }
+    ensures read_text { result.status ≡ Status.ReadFault → IfSome (F.files shelf.old) (λ m. EndsAtFault (S.left updates.old) (S.left updates.new)
+        (written_of limits.now (inputs limits.now m (shape_of (texts words.now)))) (W.taken out.old) (W.taken out.new)) }
     ensures write_fault { result.status ≡ Status.WriteFault → Rose (W.faults out.old) (W.faults out.new) }
-    ensures end { result.status ≡ Status.Done → IfSome (shape_of (texts words.now)) (λ shape. IsAtEnd (updates_read shape (S.left updates.new))) }
-    ensures unread { MatchOption (shape_of (texts words.now)) (updates.new ≡ updates.old) (λ shape. IfUnread shape (updates.new ≡ updates.old)) }
-    ensures accepted { result.status ≡ Status.Done → IfSome (shape_of (texts words.now)) (HasAccepted limits.now (F.files shelf.old)) }
-    ensures done { result.status ≡ Status.Done → IfSome (shape_of (texts words.now)) (λ shape.
-        WritesAll limits.now (F.files shelf.old) shape (S.left updates.old) (W.taken out.old) (W.taken out.new)) }
-    ensures front { MatchOption (shape_of (texts words.now)) (Appends (W.taken out.old) (W.taken out.new) []) (λ shape.
-        WritesFront limits.now (F.files shelf.old) shape (S.left updates.old) (W.taken out.old) (W.taken out.new)) }
-    ensures complete { IfSome (shape_of (texts words.now)) (λ shape. ¬ OneAbsent (F.files shelf.old) shape
-        → ((bad : Bad) → ¬ IsBadGraph limits.now (F.files shelf.old) shape bad) → ((bad : Bad) → ¬ IsBadPatterns limits.now (F.files shelf.old) shape bad)
-        → ¬ OneLonger (F.files shelf.old) shape (S.left updates.old) limits.now.input_bytes
-        → ¬ OneRose shape (F.faults shelf.old) (F.faults shelf.new) (S.faults updates.old) (S.faults updates.new)
-        → ¬ Rose (W.faults out.old) (W.faults out.new) → (result.status ≡ Status.Done) ⊎ (result.status ≡ Status.Memory)) }
+    ensures end { result.status ≡ Status.Done → IfSome (shape_of (texts words.now)) (λ shape. ReadsUpdates shape → IsAtEnd (S.left updates.new)) }
+    ensures unread { MatchOption (shape_of (texts words.now)) (updates.new ≡ updates.old) (λ shape. ¬ ReadsUpdates shape → updates.new ≡ updates.old) }
     ensures told { Appends (E.taken err.old) (E.taken err.new) (status_text result.status)
         ⊎ (Rose (E.faults err.old) (E.faults err.new) × AppendsFront (E.taken err.old) (E.taken err.new) (status_text result.status)) }
 {

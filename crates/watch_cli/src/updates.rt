@@ -1,11 +1,12 @@
 //! The updates, read piece by piece.
-ghost use Rattle.std.specs.Prelude.{◌≡◌, ◌≤◌, ◌<◌, length, OnOk, OnErr, IfErr, IfSome};
-ghost use Rattle.std.specs.Io.KnownBytes.{Appends, IsAtEnd};
-ghost use Rattle.flux_outside.specs.Told.{AppendsFront};
+ghost use Rattle.std.specs.Prelude.{◌≡◌, OnOk, OnErr, IfErr};
+ghost use Rattle.std.specs.Io.KnownBytes.{IsAtEnd};
+ghost use Rattle.flux_outside.specs.Causes.{Rose};
 ghost use Rattle.flux_model.specs.Limits.{IsFair};
-ghost use Rattle.flux_model.specs.Lines.{lines};
-ghost use Rattle.watch_cli.specs.Session.{said_by, last_text};
-ghost use Rattle.watch_cli.specs.Halts.{FollowHalts};
+ghost use Rattle.flux_model.specs.Verdict.{Watched, Done, ending_with, written_before};
+ghost use Rattle.watch_cli.specs.Ends.{EndsAs, EndsBefore, EndsAtFault};
+ghost use Rattle.watch_cli.specs.Halts.{HaltWhere};
+ghost use Rattle.watch_cli.specs.Session.{first_state};
 
 use crate::halt::Halt;
 use crate::piece::{ask_for, make_buffer};
@@ -25,16 +26,17 @@ pub fn follow<S: Source, W: Sink>(
     out: &mut W,
 ) -> Result<(), Halt>
     requires fair { IsFair limits.now }
-    requires first { session.old.lines ≡ 0 }
+    requires first { session.old ≡ first_state limits.now session.old.graph session.old.patterns }
     ensures end { OnOk result (IsAtEnd (S.left updates.new)) }
-    ensures ok { OnOk result (IfSome (S.left updates.old) (λ s.
-        Appends (W.taken out.old) (W.taken out.new) (last_text session.old (said_by (lines limits.now.line_bytes s))))) }
-    ensures err { OnErr result (IfSome (S.left updates.old) (λ s.
-        AppendsFront (W.taken out.old) (W.taken out.new) (last_text session.old (said_by (lines limits.now.line_bytes s))))) }
-    ensures read_later { S.faults updates.old ≤ S.faults updates.new }
-    ensures later { W.faults out.old ≤ W.faults out.new }
-    ensures halt { IfErr result (FollowHalts (S.faults updates.old) (S.faults updates.new) (W.faults out.old) (W.faults out.new)
-        (IfSome (S.left updates.old) (λ s. limits.now.input_bytes < length s))) }
+    ensures ok { OnOk result (EndsAs (S.left updates.old)
+        (λ s. ending_with limits.now s (Watched session.old.graph session.old.patterns)) (W.taken out.old) (W.taken out.new) Done) }
+    ensures front { OnErr result (EndsBefore (S.left updates.old)
+        (λ s. ending_with limits.now s (Watched session.old.graph session.old.patterns)) (W.taken out.old) (W.taken out.new)) }
+    ensures halt { IfErr result (HaltWhere
+        (EndsAs (S.left updates.old) (λ s. ending_with limits.now s (Watched session.old.graph session.old.patterns)) (W.taken out.old) (W.taken out.new))
+        (Rose (S.faults updates.old) (S.faults updates.new) × EndsAtFault (S.left updates.old) (S.left updates.new)
+        (written_before limits.now (Watched session.old.graph session.old.patterns)) (W.taken out.old) (W.taken out.new))
+        (Rose (W.faults out.old) (W.faults out.new))) }
 {
     let mut lines = Lines::new(alloc, limits.line_bytes);
     let mut report = Vec::new(alloc);

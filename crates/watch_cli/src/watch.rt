@@ -1,11 +1,11 @@
 //! `watch`: both files are read, and then the updates are dealt with.
-ghost use Rattle.std.specs.Prelude.{◌⊎◌, OnOk, IfErr};
+ghost use Rattle.std.specs.Prelude.{Some, OnOk, IfErr};
 ghost use Rattle.std.specs.Io.KnownBytes.{IsAtEnd};
 ghost use Rattle.flux_outside.specs.Causes.{Rose};
 ghost use Rattle.flux_model.specs.Limits.{IsFair};
-ghost use Rattle.watch_cli.specs.Words.{Watch};
-ghost use Rattle.watch_cli.specs.Due.{WritesAll, WritesFront, HasAccepted};
-ghost use Rattle.watch_cli.specs.Halts.{HaltsWhere};
+ghost use Rattle.flux_model.specs.Verdict.{Watch, Done};
+ghost use Rattle.watch_cli.specs.Ends.{RunEndsAs, RunEndsBefore, ReadFails};
+ghost use Rattle.watch_cli.specs.Halts.{HaltWhere};
 
 use crate::halt::Halt;
 use crate::inputs::{read_graph, read_patterns};
@@ -27,22 +27,20 @@ pub fn watch_updates<F: Shelf, S: Source, W: Sink>(
 ) -> Result<(), Halt>
     requires { IsFair limits.now }
     ensures end { OnOk result (IsAtEnd (S.left updates.new)) }
-    ensures accepted { OnOk result (HasAccepted limits.now (F.files shelf.old) (Watch graph_name.now patterns_name.now)) }
-    ensures ok { OnOk result (WritesAll limits.now (F.files shelf.old) (Watch graph_name.now patterns_name.now)
-        (S.left updates.old) (W.taken out.old) (W.taken out.new)) }
-    ensures front { WritesFront limits.now (F.files shelf.old) (Watch graph_name.now patterns_name.now)
+    ensures ok { OnOk result (RunEndsAs limits.now (F.files shelf.old) (Some (Watch graph_name.now patterns_name.now))
+        (S.left updates.old) (W.taken out.old) (W.taken out.new) Done) }
+    ensures front { RunEndsBefore limits.now (F.files shelf.old) (Some (Watch graph_name.now patterns_name.now))
         (S.left updates.old) (W.taken out.old) (W.taken out.new) }
-    ensures halt { IfErr result (HaltsWhere limits.now (F.files shelf.old) (Watch graph_name.now patterns_name.now) (S.left updates.old)
-        (Rose (F.faults shelf.old) (F.faults shelf.new) ⊎ Rose (S.faults updates.old) (S.faults updates.new)) (Rose (W.faults out.old) (W.faults out.new))) }
+    ensures halt { IfErr result (HaltWhere
+        (RunEndsAs limits.now (F.files shelf.old) (Some (Watch graph_name.now patterns_name.now))
+        (S.left updates.old) (W.taken out.old) (W.taken out.new))
+        (ReadFails limits.now (F.files shelf.old) (Some (Watch graph_name.now patterns_name.now))
+        (F.faults shelf.old) (F.faults shelf.new) (S.faults updates.old) (S.faults updates.new)
+        (S.left updates.old) (S.left updates.new) (W.taken out.old) (W.taken out.new))
+        (Rose (W.faults out.old) (W.faults out.new))) }
 {
-    let graph = match read_graph(alloc, limits, shelf, graph_name) {
-        Ok(graph) => graph,
-        Err(stop) => return Err(Halt::of_graph(stop)),
-    };
-    let patterns = match read_patterns(alloc, limits, shelf, patterns_name) {
-        Ok(patterns) => patterns,
-        Err(stop) => return Err(Halt::of_patterns(stop)),
-    };
+    let graph = read_graph(alloc, limits, shelf, graph_name)?;
+    let patterns = read_patterns(alloc, limits, shelf, patterns_name)?;
     let mut session = Session::new(graph, patterns);
     follow(alloc, limits, &mut session, updates, out)
 }

@@ -1,12 +1,15 @@
 //! The words of the command line.
 ghost use Rattle.std.specs.Prelude.{◌≡◌, MatchOption, None, Some};
-ghost use Rattle.watch_cli.specs.Words.{shape_of, seen_shape, texts};
+ghost use Rattle.flux_model.specs.Verdict.{shape_of};
+ghost use Rattle.watch_cli.specs.Words.{seen_shape, texts};
 
 /// What the words ask for, with the names of the files.
 #[derive(Clone, Copy)]
 pub enum Shape<'a> {
     /// `watch GRAPH PATTERNS`: what each update changes.
     Watch { graph: &'a str, patterns: &'a str },
+    /// `match GRAPH PATTERNS`: all embeddings.
+    Match { graph: &'a str, patterns: &'a str },
     /// `save GRAPH`: the text of the graph.
     Save { graph: &'a str },
 }
@@ -17,6 +20,10 @@ pub fn parse_shape(words: &[String]) -> Option<Shape<'_>>
 {
     match words {
         [command, graph, patterns] if command.as_str() == "watch" => Some(Shape::Watch {
+            graph: graph.as_str(),
+            patterns: patterns.as_str(),
+        }),
+        [command, graph, patterns] if command.as_str() == "match" => Some(Shape::Match {
             graph: graph.as_str(),
             patterns: patterns.as_str(),
         }),

@@ -1,8 +1,13 @@
-use Rattle.std.proofs.Common.{◌≡◌, ◌+◌, ◌≤◌, length, arith}
+use Rattle.std.proofs.Common.{◌≡◌, ◌+◌, ◌≤◌, length, ap, arith}
 use Rattle.std.proofs.lemmas.Result.{err_from_is_err_and, on_ok_weaker, on_err_weaker, IfErr-weaker}
 use Rattle.std.proofs.lemmas.Grind.{common_steps}
 use Rattle.stream_lines.specs.Lent.{one_line}
-use Rattle.watch_cli.proofs.ReportLemmas.{Followed-start, Followed-next, Followed-front, Followed-stops, Followed-end, Followed-end_short, Followed-longer, FollowHalts-write, Consumes-none, lines_fit, some_lines_fit}
+use Rattle.flux_outside.specs.Causes.{Rose}
+use Rattle.flux_model.specs.Verdict.{Watched, ending_with, written_before}
+use Rattle.watch_cli.specs.Ends.{EndsAs, EndsAtFault}
+use Rattle.watch_cli.specs.Session.{WatchState}
+use Rattle.watch_cli.proofs.ReportLemmas.{Followed-start, Followed-next, lines_fit, some_lines_fit}
+use Rattle.watch_cli.proofs.FollowLemmas.{Consumes-none, Followed-before, Followed-fault, Followed-long, Followed-stops, Followed-done, Followed-done_short, write-halts}
 use Rattle.watch_cli.proofs.updates.follow.Goals as goal
 
 pub loop-count-init : goal.loop-count-init
@@ -15,25 +20,36 @@ loop-count-init g c = record {
   later = omega arith;
 }
 
-pub returns-in_default-read-clause-err : goal.returns-in_default-read-clause-err
-returns-in_default-read-clause-err g c = Followed-front _ _ _ _ _ _ _ _ _ c.loop-count.invariant.followed
+pub returns-in_default-read-clause-front : goal.returns-in_default-read-clause-front
+returns-in_default-read-clause-front g c =
+    Followed-before c.args.limits.now c.args.session.now.graph c.args.session.now.patterns _ _ _ _ _ _ _ _ c.requires.first c.loop-count.invariant.followed c.loop-count.invariant.within
 
-pub returns-then-count-room-clause-err : goal.returns-then-count-room-clause-err
-returns-then-count-room-clause-err g c = Followed-front _ _ _ _ _ _ _ _ _ c.loop-count.invariant.followed
+pub returns-in_default-read-clause-halt : goal.returns-in_default-read-clause-halt
+returns-in_default-read-clause-halt g c = (
+  omega (arith, c.loop-count.invariant.read_later, c.in_default-read.ensures.cause.failed),
+  Followed-fault c.args.limits.now c.args.session.now.graph c.args.session.now.patterns _ _ _ _ _ _ _ _ c.requires.first _ c.loop-count.invariant.followed c.in_default-read.ensures.bytes,
+)
+
+pub returns-then-count-room-clause-front : goal.returns-then-count-room-clause-front
+returns-then-count-room-clause-front g c =
+    Followed-before c.args.limits.now c.args.session.now.graph c.args.session.now.patterns _ _ _ _ _ _ _ _ c.requires.first c.loop-count.invariant.followed c.loop-count.invariant.within
 
 pub returns-then-count-room-clause-halt : goal.returns-then-count-room-clause-halt
 returns-then-count-room-clause-halt g c =
-    Followed-longer _ _ c.in-Ok-read.count c.args.limits.now.input_bytes _ _ _ _ _ _ _ _ _ c.loop-count.invariant.followed c.in-Ok-read.ensures.bytes.0 c.in-Ok-read.ensures.bound.1
-    (omega (arith, c.if-count-room.true, c.loop-count.invariant.within))
+    let bound : c.in-Ok-read.count ≤ length c.read.new.buf = c.in-Ok-read.ensures.bound.0 in
+    let asked : length c.read.new.buf ≡ c.ask_for.result = grind (arith, common_steps) in
+    Followed-long c.args.limits.now c.args.session.now.graph c.args.session.now.patterns _ _ _ _ _ _ _ _ c.requires.first _ c.in-Ok-read.count _ c.loop-count.invariant.followed
+    c.in-Ok-read.ensures.bytes.0 c.in-Ok-read.ensures.bound.1 (omega arith) (omega (arith, bound, asked, c.loop-count.invariant.within, c.if-count-room.true, c.ask_for.ensures.within))
 
-pub returns-in_default-push-clause-err : goal.returns-in_default-push-clause-err
-returns-in_default-push-clause-err g c = Followed-front _ _ _ _ _ _ _ _ _ c.loop-count.invariant.followed
+pub returns-in_default-push-clause-front : goal.returns-in_default-push-clause-front
+returns-in_default-push-clause-front g c =
+    Followed-before c.args.limits.now c.args.session.now.graph c.args.session.now.patterns _ _ _ _ _ _ _ _ c.requires.first c.loop-count.invariant.followed c.loop-count.invariant.within
 
 pub report_waiting-requires-clause-fits : goal.report_waiting-requires-clause-fits
 report_waiting-requires-clause-fits g c =
     let fit : c.loop-count.session.lines + length c.push.new.self.queue ≤ c.args.session.now.lines + (c.loop-count.given + c.in-Ok-read.count) =
     lines_fit _ _ _ _ _ _ _ _ _ _ _ _ c.loop-count.invariant.followed c.in-Ok-push.ensures.lines c.in-Ok-read.ensures.bound.1 in
-    omega (arith, fit, c.requires.first, c.if-count-room.false, c.loop-count.invariant.within, c.requires.fair.input_bytes.1)
+    omega (arith, fit, ap (λ (s : WatchState). s.lines) c.requires.first, c.if-count-room.false, c.loop-count.invariant.within, c.requires.fair.input_bytes.1)
 
 pub loop-count-preserved : goal.loop-count-preserved
 loop-count-preserved g c = record {
@@ -46,37 +62,48 @@ loop-count-preserved g c = record {
   later = omega (arith, c.loop-count.invariant.later, c.in_ok-report_waiting.ensures.later);
 }
 
-pub returns-in_err-report_waiting-clause-err : goal.returns-in_err-report_waiting-clause-err
-returns-in_err-report_waiting-clause-err g c =
+pub returns-in_err-report_waiting-clause-front : goal.returns-in_err-report_waiting-clause-front
+returns-in_err-report_waiting-clause-front g c =
     let p = err_from_is_err_and c.from_residual.result c.from_residual.ensures.1 in
-    rw p.1 (Followed-stops _ _ _ _ _ _ _ _ _ _ _ _ _ c.loop-count.invariant.followed c.in-Ok-read.ensures.bytes.0 c.in-Ok-push.ensures.lines c.in_err-report_waiting.ensures.err)
+    rw p.1 (Followed-stops c.args.limits.now c.args.session.now.graph c.args.session.now.patterns _ _ _ _ _ _ _ _ c.requires.first _ _ c.in-Ok-read.count _ _ c.loop-count.invariant.followed
+    c.in-Ok-read.ensures.bytes.0 c.in-Ok-read.ensures.bound.1 (omega (arith, c.if-count-room.false, c.loop-count.invariant.within)) c.in-Ok-push.ensures.lines c.in_err-report_waiting.ensures.err)
 
 pub returns-in_err-report_waiting-clause-halt : goal.returns-in_err-report_waiting-clause-halt
 returns-in_err-report_waiting-clause-halt g c =
     let p = err_from_is_err_and c.from_residual.result c.from_residual.ensures.1 in
-    rw (p.1, p.2) (FollowHalts-write _ _ _ _ _ _ _ c.loop-count.invariant.later c.in_err-report_waiting.ensures.halt)
+    rw (p.1, p.2) (write-halts _ _ _
+    (EndsAs (g.S.Source.left c.args.updates.now) (λ s. ending_with c.args.limits.now s (Watched c.args.session.now.graph c.args.session.now.patterns)) (g.W.Sink.taken c.args.out.now) (g.W.Sink.taken c.report_waiting.new.out))
+    (Rose (g.S.Source.faults c.args.updates.now) (g.S.Source.faults c.read.new.self)
+    × EndsAtFault (g.S.Source.left c.args.updates.now) (g.S.Source.left c.read.new.self) (written_before c.args.limits.now (Watched c.args.session.now.graph c.args.session.now.patterns)) (g.W.Sink.taken c.args.out.now) (g.W.Sink.taken c.report_waiting.new.out))
+    _ c.loop-count.invariant.later c.in_err-report_waiting.ensures.halt)
 
 pub report_end-requires-clause-fits : goal.report_end-requires-clause-fits
 report_end-requires-clause-fits g c =
     let fit : c.loop-count.session.lines ≤ c.args.session.now.lines + c.loop-count.given = some_lines_fit _ _ _ _ _ _ _ _ _ c.loop-count.invariant.followed in
-    omega (arith, fit, c.requires.first, c.loop-count.invariant.within, c.requires.fair.input_bytes.1)
+    omega (arith, fit, ap (λ (s : WatchState). s.lines) c.requires.first, c.loop-count.invariant.within, c.requires.fair.input_bytes.1)
 
 pub returns-clause-ok : goal.returns-clause-ok
 returns-clause-ok g c =
     let zero : c.in-Ok-read.count ≡ 0 = omega (arith, c.if-count-eq0.true) in
     on_ok_weaker c.report_end.result
-    (λ put. Followed-end _ _ _ _ _ _ _ _ _ _ _ (one_line c.last.result) c.loop-count.invariant.followed (Consumes-none _ _ _ _ zero c.in-Ok-read.ensures.bytes.0)
-    (c.in-Ok-read.ensures.bytes.1 zero (grind (arith, common_steps))) c.last.ensures.lines put)
+    (λ put. Followed-done c.args.limits.now c.args.session.now.graph c.args.session.now.patterns _ _ _ _ _ _ _ _ c.requires.first _ _ (one_line c.last.result) c.loop-count.invariant.followed
+    (Consumes-none _ _ _ _ zero c.in-Ok-read.ensures.bytes.0) (c.in-Ok-read.ensures.bytes.1 zero (grind (arith, common_steps))) c.loop-count.invariant.within c.last.ensures.lines put)
     c.report_end.ensures.ok
 
-pub returns-clause-err : goal.returns-clause-err
-returns-clause-err g c =
+pub returns-clause-front : goal.returns-clause-front
+returns-clause-front g c =
     let zero : c.in-Ok-read.count ≡ 0 = omega (arith, c.if-count-eq0.true) in
     on_err_weaker c.report_end.result
-    (λ front. Followed-end_short _ _ _ _ _ _ _ _ _ _ _ (one_line c.last.result) c.loop-count.invariant.followed (Consumes-none _ _ _ _ zero c.in-Ok-read.ensures.bytes.0)
-    (c.in-Ok-read.ensures.bytes.1 zero (grind (arith, common_steps))) c.last.ensures.lines front)
+    (λ front. Followed-done_short c.args.limits.now c.args.session.now.graph c.args.session.now.patterns _ _ _ _ _ _ _ _ c.requires.first _ _ (one_line c.last.result) c.loop-count.invariant.followed
+    (Consumes-none _ _ _ _ zero c.in-Ok-read.ensures.bytes.0) (c.in-Ok-read.ensures.bytes.1 zero (grind (arith, common_steps))) c.loop-count.invariant.within c.last.ensures.lines front)
     c.report_end.ensures.err
 
 pub returns-clause-halt : goal.returns-clause-halt
 returns-clause-halt g c =
-    IfErr-weaker c.report_end.result _ _ (λ s stopped. FollowHalts-write _ _ _ _ _ _ s c.loop-count.invariant.later stopped) c.report_end.ensures.halt
+    IfErr-weaker c.report_end.result _ _
+    (λ s stopped. write-halts _ _ _
+    (EndsAs (g.S.Source.left c.args.updates.now) (λ s. ending_with c.args.limits.now s (Watched c.args.session.now.graph c.args.session.now.patterns)) (g.W.Sink.taken c.args.out.now) (g.W.Sink.taken c.report_end.new.out))
+    (Rose (g.S.Source.faults c.args.updates.now) (g.S.Source.faults c.read.new.self)
+    × EndsAtFault (g.S.Source.left c.args.updates.now) (g.S.Source.left c.read.new.self) (written_before c.args.limits.now (Watched c.args.session.now.graph c.args.session.now.patterns)) (g.W.Sink.taken c.args.out.now) (g.W.Sink.taken c.report_end.new.out))
+    s c.loop-count.invariant.later stopped)
+    c.report_end.ensures.halt

@@ -1,20 +1,61 @@
-use Rattle.std.proofs.lemmas.Result.{on_ok_weaker}
-use Rattle.watch_cli.specs.Words.{Watch}
-use Rattle.watch_cli.proofs.TopLemmas.{WritesAll-from, WritesFront-nothing, WritesFront-either, HasFile-same}
+use Rattle.std.proofs.Common.{Some, Ok, Err, refl, sym, subst}
+use Rattle.std.proofs.lemmas.Result.{err_from_is_err_and, on_ok_weaker, IfErr-weaker}
+use Rattle.flux_outside.specs.Causes.{Rose}
+use Rattle.flux_model.specs.Verdict.{Shape, Watch, Watched, Done, pattern_file}
+use Rattle.watch_cli.specs.Files.{FileIs}
+use Rattle.watch_cli.specs.Session.{WatchState}
+use Rattle.watch_cli.proofs.TopLemmas.{Judged, both-judged, patterns-judged, run-before, run-ends, run-either, file-halts, follow-halts}
 use Rattle.watch_cli.proofs.watch.watch_updates.Goals as goal
+
+pub returns-in_err-patterns-clause-front : goal.returns-in_err-patterns-clause-front
+returns-in_err-patterns-clause-front g c =
+    run-before c.args.limits.now (g.F.Shelf.files c.args.shelf.now) (Some (Watch c.args.graph_name.now c.args.patterns_name.now)) (g.S.Source.left c.args.updates.now) (g.W.Sink.taken c.args.out.now)
+
+pub returns-in_err-patterns-clause-halt : goal.returns-in_err-patterns-clause-halt
+returns-in_err-patterns-clause-halt g c =
+    let shape : Shape = Watch c.args.graph_name.now c.args.patterns_name.now in
+    let p = err_from_is_err_and c.from_residual-in_err-patterns.result c.from_residual-in_err-patterns.ensures.1 in
+    rw (p.1, p.2) (file-halts c.args.limits.now (g.F.Shelf.files c.args.shelf.now) shape
+    (g.F.Shelf.faults c.args.shelf.now) (g.F.Shelf.faults c.read_graph.new.shelf) (g.F.Shelf.faults c.read_patterns.new.shelf)
+    (g.S.Source.faults c.args.updates.now) (g.S.Source.faults c.args.updates.now) (g.S.Source.left c.args.updates.now) (g.W.Sink.taken c.args.out.now)
+    (λ v. FileIs (g.F.Shelf.files c.read_graph.new.shelf) c.args.patterns_name.now (pattern_file c.args.limits.now) (Err v))
+    (Rose (g.W.Sink.faults c.args.out.now) (g.W.Sink.faults c.args.out.now)) _
+    (λ v e. patterns-judged Watched shape c.args.graph_name.now c.args.patterns_name.now c.args.limits.now (g.F.Shelf.files c.args.shelf.now) (g.F.Shelf.files c.read_graph.new.shelf) c.in_ok-graph.graph.graph v
+    (λ m. refl) c.in_ok-graph.ensures.same c.in_ok-graph.ensures.ok e)
+    c.in_ok-graph.ensures.later c.in_err-patterns.ensures.halt)
 
 pub returns-clause-ok : goal.returns-clause-ok
 returns-clause-ok g c =
+    let shape : Shape = Watch c.args.graph_name.now c.args.patterns_name.now in
+    let judged : Judged c.args.limits.now (g.F.Shelf.files c.args.shelf.now) (Some shape) (Ok (Watched c.new-session.result.graph c.new-session.result.patterns)) =
+    subst (λ (w : WatchState). Judged c.args.limits.now (g.F.Shelf.files c.args.shelf.now) (Some shape) (Ok (Watched w.graph w.patterns))) (sym c.new-session.ensures)
+    (both-judged Watched shape c.args.graph_name.now c.args.patterns_name.now c.args.limits.now (g.F.Shelf.files c.args.shelf.now) (g.F.Shelf.files c.read_graph.new.shelf) c.in_ok-graph.graph.graph c.in_ok-patterns.patterns
+    (λ m. refl) c.in_ok-graph.ensures.same c.in_ok-graph.ensures.ok c.in_ok-patterns.ensures.ok) in
     on_ok_weaker c.follow.result
-    (λ put. WritesAll-from c.args.limits.now c.in-Ok.graph.limits (g.F.Shelf.files c.args.shelf.now) c.args.graph_name.now c.args.patterns_name.now _ _ _ c.in-Ok.graph.graph c.in-Ok-read_patterns.patterns c.new-session.result
-    c.new-session.ensures c.in-Ok.ensures.ok (HasFile-same _ _ c.args.patterns_name.now _ c.in-Ok.ensures.same c.in-Ok-read_patterns.ensures.ok) put)
+    (λ e. run-ends c.args.limits.now (g.F.Shelf.files c.args.shelf.now) shape (g.S.Source.left c.args.updates.now) (g.W.Sink.taken c.args.out.now) (g.W.Sink.taken c.follow.new.out)
+    (Watched c.new-session.result.graph c.new-session.result.patterns) Done judged e)
     c.follow.ensures.ok
 
 pub returns-clause-front : goal.returns-clause-front
 returns-clause-front g c =
-    WritesFront-either c.follow.result c.args.limits.now c.in-Ok.graph.limits (g.F.Shelf.files c.args.shelf.now) c.args.graph_name.now c.args.patterns_name.now _ _ _ c.in-Ok.graph.graph c.in-Ok-read_patterns.patterns c.new-session.result
-    c.new-session.ensures c.in-Ok.ensures.ok (HasFile-same _ _ c.args.patterns_name.now _ c.in-Ok.ensures.same c.in-Ok-read_patterns.ensures.ok) c.follow.ensures.ok c.follow.ensures.err
+    let shape : Shape = Watch c.args.graph_name.now c.args.patterns_name.now in
+    let judged : Judged c.args.limits.now (g.F.Shelf.files c.args.shelf.now) (Some shape) (Ok (Watched c.new-session.result.graph c.new-session.result.patterns)) =
+    subst (λ (w : WatchState). Judged c.args.limits.now (g.F.Shelf.files c.args.shelf.now) (Some shape) (Ok (Watched w.graph w.patterns))) (sym c.new-session.ensures)
+    (both-judged Watched shape c.args.graph_name.now c.args.patterns_name.now c.args.limits.now (g.F.Shelf.files c.args.shelf.now) (g.F.Shelf.files c.read_graph.new.shelf) c.in_ok-graph.graph.graph c.in_ok-patterns.patterns
+    (λ m. refl) c.in_ok-graph.ensures.same c.in_ok-graph.ensures.ok c.in_ok-patterns.ensures.ok) in
+    run-either c.follow.result c.args.limits.now (g.F.Shelf.files c.args.shelf.now) shape (g.S.Source.left c.args.updates.now) (g.W.Sink.taken c.args.out.now) (g.W.Sink.taken c.follow.new.out)
+    (Watched c.new-session.result.graph c.new-session.result.patterns) judged c.follow.ensures.ok c.follow.ensures.front
 
-pub returns-in-Err-read_patterns-clause-front : goal.returns-in-Err-read_patterns-clause-front
-returns-in-Err-read_patterns-clause-front g c =
-    WritesFront-nothing c.args.limits.now (g.F.Shelf.files c.args.shelf.now) (Watch c.args.graph_name.now c.args.patterns_name.now) (g.S.Source.left c.args.updates.now) (g.W.Sink.taken c.args.out.now)
+pub returns-clause-halt : goal.returns-clause-halt
+returns-clause-halt g c =
+    let shape : Shape = Watch c.args.graph_name.now c.args.patterns_name.now in
+    let judged : Judged c.args.limits.now (g.F.Shelf.files c.args.shelf.now) (Some shape) (Ok (Watched c.new-session.result.graph c.new-session.result.patterns)) =
+    subst (λ (w : WatchState). Judged c.args.limits.now (g.F.Shelf.files c.args.shelf.now) (Some shape) (Ok (Watched w.graph w.patterns))) (sym c.new-session.ensures)
+    (both-judged Watched shape c.args.graph_name.now c.args.patterns_name.now c.args.limits.now (g.F.Shelf.files c.args.shelf.now) (g.F.Shelf.files c.read_graph.new.shelf) c.in_ok-graph.graph.graph c.in_ok-patterns.patterns
+    (λ m. refl) c.in_ok-graph.ensures.same c.in_ok-graph.ensures.ok c.in_ok-patterns.ensures.ok) in
+    IfErr-weaker c.follow.result _ _
+    (λ h so. follow-halts c.args.limits.now (g.F.Shelf.files c.args.shelf.now) shape (g.F.Shelf.faults c.args.shelf.now) (g.F.Shelf.faults c.read_patterns.new.shelf)
+    (g.S.Source.faults c.args.updates.now) (g.S.Source.faults c.follow.new.updates) (g.W.Sink.faults c.args.out.now) (g.W.Sink.faults c.follow.new.out)
+    (g.S.Source.left c.args.updates.now) (g.S.Source.left c.follow.new.updates) (g.W.Sink.taken c.args.out.now) (g.W.Sink.taken c.follow.new.out)
+    (Watched c.new-session.result.graph c.new-session.result.patterns) h judged tt so)
+    c.follow.ensures.halt

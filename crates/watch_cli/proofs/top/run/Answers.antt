@@ -1,0 +1,16 @@
+use Rattle.flux_outside.specs.Causes.{Rose}
+use Rattle.flux_model.specs.Verdict.{shape_of}
+use Rattle.watch_cli.specs.Words.{texts}
+use Rattle.watch_cli.specs.Ends.{OneRose, ReadFails}
+use Rattle.watch_cli.proofs.TopLemmas.{status-complete}
+use Rattle.watch_cli.proofs.top.run.Goals as goal
+
+pub returns-clause-complete : goal.returns-clause-complete
+returns-clause-complete g c =
+    status-complete c.args.limits.now (g.F.Shelf.files c.args.shelf.now) (shape_of (texts c.args.words.now)) (g.S.Source.left c.args.updates.now) (g.W.Sink.taken c.args.out.now) (g.W.Sink.taken c.judge-status.new.out)
+    (ReadFails c.args.limits.now (g.F.Shelf.files c.args.shelf.now) (shape_of (texts c.args.words.now))
+    (g.F.Shelf.faults c.args.shelf.now) (g.F.Shelf.faults c.judge-status.new.shelf) (g.S.Source.faults c.args.updates.now) (g.S.Source.faults c.judge-status.new.updates)
+    (g.S.Source.left c.args.updates.now) (g.S.Source.left c.judge-status.new.updates) (g.W.Sink.taken c.args.out.now) (g.W.Sink.taken c.judge-status.new.out))
+    (Rose (g.W.Sink.faults c.args.out.now) (g.W.Sink.faults c.judge-status.new.out))
+    (OneRose (shape_of (texts c.args.words.now)) (g.F.Shelf.faults c.args.shelf.now) (g.F.Shelf.faults c.judge-status.new.shelf) (g.S.Source.faults c.args.updates.now) (g.S.Source.faults c.judge-status.new.updates))
+    c.judge-status.result (λ reads. reads.cause) c.judge-status.ensures.status

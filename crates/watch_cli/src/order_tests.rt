@@ -1,0 +1,94 @@
+//! Every block is put before the next read. The source and the sink share a count of the bytes that were put.
+ghost use Rattle.std.specs.Prelude.{◌≡◌};
+
+use crate::tests::{GRAPH, PATTERN, shelf_of, words_of};
+use crate::{Status, run};
+use flux_model::{Limits, Silent, Steps};
+use flux_outside::{Failed, MemSink, MemSource, Sink, Source};
+use std::cell::Cell;
+use std::test::Fail;
+
+/// A sink that counts the bytes that it took.
+#[derive(Drop)]
+struct CountingSink<'a> {
+    sink: MemSink,
+    put: &'a Cell<u64>,
+}
+
+impl Sink for CountingSink<'_> {
+    ghost use Rattle.std.specs.Prelude.{None};
+
+    ghost taken = { λ _. None };
+
+    ghost faults = { λ s. s.sink.faults };
+
+    fn put(&mut self, piece: &[u8]) -> Result<(), Failed> {
+        self.sink.put(piece)?;
+        self.put.set(self.put.get().saturating_add(piece.len() as u64));
+        Ok(())
+    }
+}
+
+/// A source that notes, at each of its first reads, how many bytes had been put before.
+#[derive(Drop)]
+struct NotingSource<'a> {
+    source: MemSource,
+    put: &'a Cell<u64>,
+    noted: [u64; 5],
+    reads: usize,
+}
+
+impl Source for NotingSource<'_> {
+    ghost use Rattle.std.specs.Prelude.{None};
+
+    ghost left = { λ _. None };
+
+    ghost faults = { λ s. s.source.faults };
+
+    fn read(&mut self, buf: &mut [u8]) -> Result<usize, Failed> {
+        if let Some(place) = self.noted.get_mut(self.reads) {
+            *place = self.put.get();
+            self.reads += 1;
+        }
+        self.source.read(buf)
+    }
+}
+
+// Each piece but the third ends one line, the third none; the last read gives nothing.
+#[test]
+fn each_block_is_put_before_the_next_read(rt: HostRuntime) -> Result<(), Fail> {
+    let alloc = rt.alloc();
+    let words = words_of(alloc, &["watch", "g", "p"])?;
+    let mut shelf = shelf_of(alloc, GRAPH, PATTERN)?;
+    let put = Cell::new(0);
+    let bytes = b"e 1 2 r\n-e 1 2 r\ne 1 2 r";
+    let mut updates = NotingSource {
+        source: MemSource::new(alloc, bytes, &[8, 9, 4, 3], &[])?,
+        put: &put,
+        noted: [99; 5],
+        reads: 0,
+    };
+    let mut out = CountingSink {
+        sink: MemSink::new(alloc, 99)?,
+        put: &put,
+    };
+    let mut err = MemSink::new(alloc, 99)?;
+    let mut steps = Steps::new(Silent);
+    let ended = run(
+        alloc,
+        &words,
+        &Limits::standard(),
+        &mut shelf,
+        &mut updates,
+        &mut out,
+        &mut err,
+        &mut steps,
+    );
+    assert_eq!(rt; ended.status, Status::Done);
+    assert_eq!(rt;
+        out.sink.bytes(),
+        b"+ 1 ab 1 2\n- 2 ab 1 2\n+ 3 ab 1 2\n= 3 3 0\n".as_slice()
+    );
+    assert_eq!(rt; updates.noted, [0, 11, 22, 22, 22]);
+    Ok(())
+}
