@@ -1,56 +1,19 @@
 -- The embeddings of a pattern in a graph stand in strictly ascending order.
-use Rattle.std.proofs.Common.{◌≡◌, ℕ, zero, suc, ◌+◌, Bool, true, false, ◌&&◌, List, [], ◌∷◌, ◌++◌, map, filter, get_or, refl, ap, ◌∙◌, arith, IsTrue}
+use Rattle.std.proofs.Common.{◌≡◌, ℕ, zero, suc, Bool, true, List, [], ◌∷◌, ◌++◌, map, filter, refl, IsTrue}
 use Rattle.std.specs.declared.cmp.Ordering.{Ordering}
-use Rattle.std.specs.declared.cmp.Ordering.TheVariants.{Less, Equal, Greater}
-use Rattle.std.specs.Ordering.{is_lt, nat_cmp, ordering_reverse}
-use Rattle.std.specs.Cmp.{IsTotalOrder}
+use Rattle.std.specs.declared.cmp.Ordering.TheVariants.{Less}
+use Rattle.std.specs.Ordering.{is_lt, nat_cmp}
 use Rattle.std.specs.Cmp.Lexicographic.{slice_cmp, nat_list_cmp_total}
 use Rattle.std.specs.List.{AllByRecursion, flat_map}
 use Rattle.std.specs.List.Sorted.{IsSorted, IsStrictlySortedBy}
 use Rattle.std.proofs.lemmas.Cmp.{nat_cmp_total, tied_itself}
 use Rattle.std.proofs.lemmas.List.Kept.{IsStrictlySortedBy-filter}
-use Rattle.std.proofs.lemmas.Map.Keys.{Less-from_sorted}
 use Rattle.flux_model.specs.Ordered.{is_ascending}
 use Rattle.flux_model.specs.Graph.{Graph, ids, vertex_cmp}
 use Rattle.flux_model.specs.Pattern.{PatternGraph, vertex_count}
 use Rattle.flux_model.specs.Embedding.{id_lists, is_embedding, embeddings}
 use Rattle.flux_model.specs.declared.graph.Vertex.{Vertex}
-
--- ---- forms of a strictly ascending list
-
-module _ {K : Type 0} (R : K → K → Ordering) (o : IsTotalOrder R) where
-  both : (b c : Bool) → b && c ≡ true → (b ≡ true) × (c ≡ true)
-  both true c h = (refl, h)
-  both false c h = (h, cc)
-
-  is_less : (r : Ordering) → is_lt r ≡ true → r ≡ Less
-  is_less Less e = refl
-  is_less Equal e = cc
-  is_less Greater e = cc
-
-  all_above : (x y : K) (ys : List K) → R x y ≡ Less → AllByRecursion (λ z. R y z ≡ Less) ys → AllByRecursion (λ z. R x z ≡ Less) ys
-  all_above x y [] l a = tt
-  all_above x y (z ∷ zs) l a = (o.trans x y z l a.0, all_above x y zs l a.1)
-
-  pub strict_from_ascending : (xs : List K) → is_ascending R xs ≡ true → IsStrictlySortedBy R xs
-  unfolding IsStrictlySortedBy
-  strict_from_ascending [] a = tt
-  strict_from_ascending (x ∷ []) a = (tt, tt)
-  strict_from_ascending (x ∷ y ∷ ys) a =
-      let parts = both (is_lt (R x y)) (is_ascending R (y ∷ ys)) a in
-      let less : R x y ≡ Less = is_less (R x y) parts.0 in
-      let rest = strict_from_ascending (y ∷ ys) parts.1 in
-      ((less, all_above x y ys less rest.0), rest)
-
-  pub ascending_from_strict : (xs : List K) → IsStrictlySortedBy R xs → is_ascending R xs ≡ true
-  unfolding IsStrictlySortedBy
-  ascending_from_strict [] s = refl
-  ascending_from_strict (x ∷ []) s = refl
-  ascending_from_strict (x ∷ y ∷ ys) s = rw s.0.0 (ascending_from_strict (y ∷ ys) s.1)
-
-  pub sorted_from_strict : (xs : List K) → IsStrictlySortedBy R xs → IsSorted R xs
-  sorted_from_strict xs s k d low high =
-      ap is_lt (o.antisymm (get_or xs (k + 1) d) (get_or xs k d) ∙ ap ordering_reverse (Less-from_sorted R xs k (k + 1) d s (omega arith) high))
+use Rattle.flux_model.proofs.SortedLemmas.{both, strict_from_ascending, ascending_from_strict, sorted_from_strict}
 
 all_append : {X : Type 0} (P : X → Type 0) (xs ys : List X) → AllByRecursion P xs → AllByRecursion P ys → AllByRecursion P (xs ++ ys)
 all_append P [] ys a b = b

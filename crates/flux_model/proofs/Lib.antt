@@ -8,3 +8,4 @@ pub mod ReportLemmas
 pub mod TreeRows
 pub mod VerdictRows
 pub mod GrownLemmas
+pub mod SortedLemmas

@@ -17,7 +17,7 @@ use Rattle.label_graph.specs.Rows.{triples_from}
 use Rattle.snapshot_text.specs.Row.{edge_triple}
 use Rattle.snapshot_text.specs.declared.row.RowEdge.{RowEdge}
 use Rattle.snapshot_text.proofs.OrderLemmas.{triple_total, same_triple}
-use Rattle.snapshot_text.proofs.SortedLemmas.{strict_from_ascending, sorted_from_strict, sorted_form_unique}
+use Rattle.flux_model.proofs.SortedLemmas.{strict_from_ascending, sorted_from_strict, sorted_form_unique}
 
 -- by label, and then by the other end
 abbrev edge_cmp : RowEdge → RowEdge → Ordering

@@ -15,7 +15,7 @@ use Rattle.flux_model.specs.declared.graph.Triple.{Triple}
 use Rattle.flux_model.specs.declared.graph.Vertex.{Vertex}
 use Rattle.label_graph.specs.Rows.{triples_from}
 use Rattle.snapshot_text.proofs.OrderLemmas.{triple_total, source_rises}
-use Rattle.snapshot_text.proofs.SortedLemmas.{strict_from_ascending}
+use Rattle.flux_model.proofs.SortedLemmas.{strict_from_ascending}
 use Rattle.snapshot_text.proofs.VertexLemmas.{ids-strict}
 
 abbrev from : ℕ → List Triple → List Triple

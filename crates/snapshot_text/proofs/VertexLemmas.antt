@@ -14,7 +14,7 @@ use Rattle.flux_model.specs.Graph.{Graph, IsGraph, ids, has_vertex, vertex_cmp}
 use Rattle.flux_model.specs.declared.graph.Vertex.{Vertex}
 use Rattle.label_graph.specs.Rows.{vertex_at}
 use Rattle.snapshot_text.proofs.OrderLemmas.{same_number}
-use Rattle.snapshot_text.proofs.SortedLemmas.{strict_from_ascending, sorted_from_strict, sorted_form_unique}
+use Rattle.flux_model.proofs.SortedLemmas.{strict_from_ascending, sorted_from_strict, sorted_form_unique}
 
 abbrev vertex_ids : List Vertex → List ℕ
 vertex_ids vs = map (λ (v : Vertex). v.id) vs

@@ -14,7 +14,7 @@ use Rattle.flux_model.specs.Ordered.{is_ascending}
 -- ---- forms of a strictly ascending list
 
 module _ {X : Type 0} (R : X → X → Ordering) (o : IsTotalOrder R) where
-  both : (b c : Bool) → b && c ≡ true → (b ≡ true) × (c ≡ true)
+  pub both : (b c : Bool) → b && c ≡ true → (b ≡ true) × (c ≡ true)
   both true c h = (refl, h)
   both false c h = cc
 
@@ -36,6 +36,12 @@ module _ {X : Type 0} (R : X → X → Ordering) (o : IsTotalOrder R) where
       let less : R x y ≡ Less = is_less (R x y) parts.0 in
       let rest = strict_from_ascending (y ∷ ys) parts.1 in
       ((less, all_above x y ys less rest.0), rest)
+
+  pub ascending_from_strict : (xs : List X) → IsStrictlySortedBy R xs → is_ascending R xs ≡ true
+  unfolding IsStrictlySortedBy
+  ascending_from_strict [] s = refl
+  ascending_from_strict (x ∷ []) s = refl
+  ascending_from_strict (x ∷ y ∷ ys) s = rw s.0.0 (ascending_from_strict (y ∷ ys) s.1)
 
   pub sorted_from_strict : (xs : List X) → IsStrictlySortedBy R xs → IsSorted R xs
   sorted_from_strict xs s k d low high =
