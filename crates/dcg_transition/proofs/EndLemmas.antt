@@ -3,52 +3,40 @@ use Rattle.std.proofs.Common.{◌≡◌, ℕ, ◌+◌, ◌≤◌, Bool, true, fa
 use Rattle.std.specs.Prelude.{Option, None, Some, count_by}
 use Rattle.std.specs.Option.{is_some}
 use Rattle.std.specs.Cmp.{nat_eq_equiv}
-use Rattle.std.specs.Str.{bytes_eq}
 use Rattle.std.proofs.lemmas.List.Sums.{sum_by-cons}
 use Rattle.flux_model.specs.Graph.{Graph}
 use Rattle.flux_model.specs.Pattern.{fits_labels}
 use Rattle.flux_model.specs.Exact.{Row}
 use Rattle.flux_model.specs.declared.state.State.TheVariants.{Null, Implicit, Explicit}
 use Rattle.dcg_store.specs.Counters.{state_of_row, is_full}
-use Rattle.dcg_transition.specs.Ends.{End}
 use Rattle.dcg_transition.specs.Filled.{joins}
 
 -- ---- one end
 
-both_or_none : (a b s t : Bool) → (a && b) ≡ t → (a && (b && s)) ≡ cond t s false
-both_or_none true true s true h = refl
-both_or_none true false s false h = refl
-both_or_none false b s false h = refl
-both_or_none true true s false h = absurd (let bad : true ≡ false = h in cc)
-both_or_none true false s true h = absurd (let bad : false ≡ true = h in cc)
-both_or_none false b s true h = absurd (let bad : false ≡ true = h in cc)
-
--- an end that is a joint leads to its vertex alone
-pub joins_one : (g : Graph) (label : List ℕ) (labels : List (List ℕ)) (w : ℕ) (x : End) (answer : Bool) → answer ≡ (bytes_eq label x.label && fits_labels g labels x.other) → answer ≡ true
-    → joins g label labels w x ≡ (w == x.other)
-joins_one g label labels w x answer is holds =
-    both_or_none (bytes_eq label x.label) (fits_labels g labels x.other) (x.other == w) true (sym is ∙ holds) ∙ nat_eq_equiv.symm x.other w
+-- an end that fits leads to its vertex alone
+pub joins_one : (g : Graph) (labels : List (List ℕ)) (w x : ℕ) (answer : Bool) → answer ≡ fits_labels g labels x → answer ≡ true → joins g labels w x ≡ (w == x)
+joins_one g labels w x answer is holds = ap (λ b. b && x == w) (sym is ∙ holds) ∙ nat_eq_equiv.symm x w
 
 -- ---- the count of the row's rest
 
-pub late : (p : End → Bool) (x : End) (rest next : List End) (more whole : ℕ) (b : Bool) → rest ≡ x ∷ next → p x ≡ b → more + count_by p rest ≡ whole → more + cond b 1 0 + count_by p next ≡ whole
+pub late : (p : ℕ → Bool) (x : ℕ) (rest next : List ℕ) (more whole : ℕ) (b : Bool) → rest ≡ x ∷ next → p x ≡ b → more + count_by p rest ≡ whole → more + cond b 1 0 + count_by p next ≡ whole
 late p x rest next more whole b is here before =
     let first = ap (count_by p) is ∙ sum_by-cons (λ y. cond (p y) 1 0) x next in
     let bit : ◌≡◌ {A = ℕ} (cond (p x) 1 0) (cond b 1 0) = λ i. cond (here i) 1 0 in
     omega (arith, first, bit, before)
 
-pub late_same : (p : End → Bool) (x : End) (rest next : List End) (more whole : ℕ) → rest ≡ x ∷ next → p x ≡ false → more + count_by p rest ≡ whole → more + count_by p next ≡ whole
+pub late_same : (p : ℕ → Bool) (x : ℕ) (rest next : List ℕ) (more whole : ℕ) → rest ≡ x ∷ next → p x ≡ false → more + count_by p rest ≡ whole → more + count_by p next ≡ whole
 late_same p x rest next more whole is here before =
     let turned = late p x rest next more whole false is here before in
     omega (arith, turned)
 
 -- so there is room for one more
-pub not_last : (p : End → Bool) (x : End) (rest next : List End) (more whole : ℕ) → rest ≡ x ∷ next → p x ≡ true → more + count_by p rest ≡ whole → more + 1 ≤ whole
+pub not_last : (p : ℕ → Bool) (x : ℕ) (rest next : List ℕ) (more whole : ℕ) → rest ≡ x ∷ next → p x ≡ true → more + count_by p rest ≡ whole → more + 1 ≤ whole
 not_last p x rest next more whole is here before =
     let turned = late p x rest next more whole true is here before in
     omega (arith, turned)
 
-pub none_late : (p : End → Bool) (rest : List End) (more whole : ℕ) → rest ≡ [] → more + count_by p rest ≡ whole → more ≡ whole
+pub none_late : (p : ℕ → Bool) (rest : List ℕ) (more whole : ℕ) → rest ≡ [] → more + count_by p rest ≡ whole → more ≡ whole
 none_late p rest more whole is before = omega (arith, ap (count_by p) is, before)
 
 -- ---- the state that a row tells

@@ -3,7 +3,6 @@ use Rattle.std.proofs.Common.{◌≡◌, ◌≢◌, ℕ, suc, ◌+◌, ◌<◌, 
 use Rattle.std.specs.Prelude.{◌⊎◌, Option, None, Some, count_by, slice_index, slice_get, IsPermutation}
 use Rattle.std.specs.Option.{option_map, ForSome}
 use Rattle.std.specs.List.{sum_by}
-use Rattle.std.specs.Str.{bytes_eq}
 use Rattle.std.proofs.lemmas.Bool.{and_parts, eq-eqb, ne_eqb, cases_eq}
 use Rattle.std.proofs.lemmas.List.{ext_get_or, get_or-map, get_or-set_same, get_or-set_other, length-map, length-set, take_all}
 use Rattle.std.proofs.lemmas.List.Sums.{sum_by-take-le, sum_by_more, count_by-le-length}
@@ -23,8 +22,8 @@ use Rattle.query_tree.proofs.CallerLemmas.{depth-below, child_once, parent_withi
 use Rattle.dcg_store.proofs.ListLemmas.{In}
 use Rattle.dcg_store.proofs.StateLemmas.{child_of, fits_of_reaches, full_is_extends}
 use Rattle.dcg_store.proofs.BoundLemmas.{fits-id}
-use Rattle.dcg_transition.specs.Branches.{IsBranchOf, opens_from, opens_among, IsTallied}
-use Rattle.dcg_transition.specs.Ends.{ends}
+use Rattle.dcg_transition.specs.Branches.{IsBranchOf, ends, opens_from, opens_among, IsTallied}
+use Rattle.dcg_transition.specs.Ends.{whole_row, ends_of}
 use Rattle.dcg_transition.specs.Filled.{child_counts, is_open, opens, with_more_outs, HasMoreOuts, HasRoomFor, counted_row}
 use Rattle.dcg_transition.specs.Levels.{is_after, IsCounted}
 use Rattle.dcg_transition.specs.declared.branch.Branch.{Branch}
@@ -97,13 +96,13 @@ module _ (q : PatternGraph) (t : QueryTree) (belongs : BelongsTo q t) (b : Branc
   tally d v = opens_from d b g v
 
   tally_few : (d : StateRows) (v : ℕ) → tally d v ≤ length g.triples
-  tally_few d v = omega (arith, count_by-le-length (opens d b.child b.label.now) (ends b.direction g v), ends_few g b.direction v)
+  tally_few d v = omega (arith, count_by-le-length (opens d b.child) (ends b g v), ends_few g b.direction b.label.now v)
 
   tally_joints : (v : ℕ) → reaches from_parent b.link.parent v ≡ true → tally old v ≡ out_count from_parent v b.child
   tally_joints v reached =
-      count_same (opens old b.child b.label.now) (λ x. bytes_eq b.label.now x.label && (fits q b.child g x.other && is_explicit from_parent b.child x.other)) (ends b.direction g v)
-      (λ x. ap (λ s. bytes_eq b.label.now x.label && s) (child_open x.other ∙ sym (implied (fits q b.child g x.other) (is_explicit from_parent b.child x.other) (λ h. fits_of_reaches from_parent (length t.links) b.child x.other (and_parts _ _ h).0))))
-      ∙ (λ i. count_by (λ x. bytes_eq (branch.label i) x.label && (fits q b.child g x.other && is_explicit from_parent b.child x.other)) (ends (branch.direction i) g v))
+      count_same (opens old b.child) (λ x. fits q b.child g x && is_explicit from_parent b.child x) (ends b g v)
+      (λ x. child_open x ∙ sym (implied (fits q b.child g x) (is_explicit from_parent b.child x) (λ h. fits_of_reaches from_parent (length t.links) b.child x (and_parts _ _ h).0)))
+      ∙ (λ i. count_by (λ x. fits q b.child g x && is_explicit from_parent b.child x) (ends_of (branch.direction i) (branch.label i) (whole_row (branch.direction i) g v)))
       ∙ sym (joints_of_row q t belongs b.child b.link branch.link g v (is_explicit from_parent b.child) (fits_of_reaches from_parent (length t.links) b.link.parent v reached))
 
   abbrev so_many : List ℕ → ℕ → ℕ
@@ -138,9 +137,8 @@ module _ (q : PatternGraph) (t : QueryTree) (belongs : BelongsTo q t) (b : Branc
   -- the children's rows stay meanwhile
   tally_same : (vs : List ℕ) (mid : StateRows) → IsTallied b g vs old mid → (v : ℕ) → tally mid v ≡ tally old v
   tally_same vs mid is v =
-      count_same (opens mid b.child b.label.now) (opens old b.child b.label.now) (ends b.direction g v) (λ x.
-      ap (λ o. bytes_eq b.label.now x.label && is_open o)
-      (is.rows b.child x.other ∙ ap (λ s. cond s (option_map (with_more_outs b.number (so_many vs x.other)) (row_at old b.link.parent x.other)) (row_at old b.child x.other)) (ne_eqb b.child b.link.parent child_apart)))
+      count_same (opens mid b.child) (opens old b.child) (ends b g v) (λ x.
+      ap is_open (is.rows b.child x ∙ ap (λ s. cond s (option_map (with_more_outs b.number (so_many vs x)) (row_at old b.link.parent x)) (row_at old b.child x)) (ne_eqb b.child b.link.parent child_apart)))
 
   parent_row : (y : ℕ) (row : Row) → row_at old b.link.parent y ≡ Some row → (reaches from_parent b.link.parent y ≡ true) × (row.outs ≡ map (counted from_parent was y) (children t b.link.parent))
   parent_row y row e = by (reaches from_parent b.link.parent y) refl (sym (before.rows b.link.parent y) ∙ e)

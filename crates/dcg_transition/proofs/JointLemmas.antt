@@ -1,11 +1,12 @@
 -- The joints that a graph vertex has on a tree edge are the ends of its row that fit.
 use Rattle.std.proofs.Common.{◌≡◌, ◌≢◌, ℕ, ◌+◌, ◌≤◌, Bool, true, false, cond, ◌&&◌, ◌==◌, List, [], ◌∷◌, length, inl, inr, refl, sym, ap, ◌∙◌, arith}
-use Rattle.std.specs.Prelude.{◌⊎◌, Option, None, Some, map, filter, count_by}
+use Rattle.std.specs.Prelude.{◌⊎◌, Option, None, Some, map, filter, count_by, IsPermutation}
 use Rattle.std.specs.List.{filter_map, cons_option}
 use Rattle.std.specs.Str.{bytes_eq}
 use Rattle.std.proofs.lemmas.Bool.{and_parts, or_cases, eqb-true}
 use Rattle.std.proofs.lemmas.List.{length-map}
 use Rattle.std.proofs.lemmas.List.Sums.{sum_by-cons, length-filter, count_by-le-length}
+use Rattle.std.proofs.lemmas.List.Sorted.{sum_by-IsPermutation}
 use Rattle.flux_model.specs.Graph.{Graph}
 use Rattle.flux_model.specs.Pattern.{PatternGraph, fits}
 use Rattle.flux_model.specs.Tree.{QueryTree, link_at, edge_at, BelongsTo}
@@ -15,9 +16,12 @@ use Rattle.flux_model.specs.declared.pattern.PatternEdge.{PatternEdge}
 use Rattle.flux_model.specs.declared.tree.TreeLink.{TreeLink}
 use Rattle.query_tree.specs.Depth.{depth}
 use Rattle.query_tree.proofs.CallerLemmas.{depth-below}
-use Rattle.dcg_transition.specs.Ends.{End, head_of, tail_of, ends, direction_to}
+use Rattle.dcg_transition.specs.Branches.{ends, row_along}
+use Rattle.dcg_transition.specs.Ends.{whole_row, other_end, ends_of, direction_to}
+use Rattle.dcg_transition.specs.declared.branch.Branch.{Branch}
 use Rattle.dcg_transition.specs.declared.direction.Direction.{Direction}
 use Rattle.dcg_transition.specs.declared.direction.Direction.TheVariants.{Out, In}
+use Rattle.dcg_transition.specs.declared.graph_row.GraphRow.{GraphRow}
 
 -- ---- counts over lists that are made of others
 
@@ -54,14 +58,33 @@ count-filter p r (x ∷ xs) =
     ]
     ∙ sym (sum_by-cons (λ z. cond (r z && p z) 1 0) x xs)
 
+-- ---- the ends of a row
+
+-- those that pass a test are as many as the triples of the label whose ends do
+count-ends_of : (p : ℕ → Bool) (direction : Direction) (label : List ℕ) (ts : List Triple) → count_by p (ends_of direction label ts) ≡ count_by (λ (t : Triple). bytes_eq label t.label && p (other_end direction t)) ts
+count-ends_of p direction label ts =
+    count-map p (other_end direction) (filter (λ (t : Triple). bytes_eq label t.label) ts) ∙ count-filter (λ (t : Triple). p (other_end direction t)) (λ t. bytes_eq label t.label) ts
+
+-- so they are as many in any order of the row
+pub count_row : (p : ℕ → Bool) (b : Branch) (g : Graph) (v : ℕ) (row : GraphRow) → row ≡ row_along b v → (ts : List Triple) → IsPermutation ts (whole_row row.direction g row.vertex)
+    → count_by p (ends_of row.direction row.label.now ts) ≡ count_by p (ends b g v)
+count_row p b g v row is ts all =
+    let us = whole_row row.direction g row.vertex in
+    count-ends_of p row.direction row.label.now ts
+    ∙ sym (sum_by-IsPermutation (λ (t : Triple). cond (bytes_eq row.label.now t.label && p (other_end row.direction t)) 1 0) ts us all)
+    ∙ sym (count-ends_of p row.direction row.label.now us)
+    ∙ ap (λ (r : GraphRow). count_by p (ends_of r.direction r.label.now (whole_row r.direction g r.vertex))) is
+
 -- a row has no more ends than the graph has triples
-pub ends_few : (g : Graph) (direction : Direction) (v : ℕ) → length (ends direction g v) ≤ length g.triples
-ends_few g Out v =
-    let p : Triple → Bool = λ t. t.src == v in
-    omega (arith, length-map (filter p g.triples) head_of, length-filter p g.triples, count_by-le-length p g.triples)
-ends_few g In v =
-    let p : Triple → Bool = λ t. t.dst == v in
-    omega (arith, length-map (filter p g.triples) tail_of, length-filter p g.triples, count_by-le-length p g.triples)
+pub ends_few : (g : Graph) (direction : Direction) (label : List ℕ) (v : ℕ) → length (ends_of direction label (whole_row direction g v)) ≤ length g.triples
+ends_few g direction label v =
+    let p : Triple → Bool = λ t. bytes_eq label t.label in
+    let row = whole_row direction g v in
+    omega (arith, length-map (filter p row) (other_end direction), length-filter p row, count_by-le-length p row, row_few direction)
+  where
+    row_few : (d : Direction) → length (whole_row d g v) ≤ length g.triples
+    row_few Out = let p : Triple → Bool = λ t. t.src == v in omega (arith, length-filter p g.triples, count_by-le-length p g.triples)
+    row_few In = let p : Triple → Bool = λ t. t.dst == v in omega (arith, length-filter p g.triples, count_by-le-length p g.triples)
 
 -- ---- one triple
 
@@ -119,43 +142,44 @@ module _ (q : PatternGraph) (t : QueryTree) (belongs : BelongsTo q t) (u : ℕ) 
     abbrev from_v : Joint → Bool
     from_v e = e.above == v && P e.below
 
+    abbrev leads : ℕ → Bool
+    leads other = fits q u g other && P other
+
     abbrev is_end : ℕ → List ℕ → Bool
-    is_end other label = bytes_eq (edge_at q l.edge).label label && (fits q u g other && P other)
+    is_end other label = bytes_eq (edge_at q l.edge).label label && leads other
 
     one_down : ((edge_at q l.edge).head == u) ≡ true → (s : Triple) → passes from_v (joint_of q t g u s) ≡ (s.src == v && is_end s.dst s.label)
     one_down down s =
         let e = edge_at q l.edge in
-        let ends = ends_down down in
-        let tail : (s.src == v) ≡ true → fits q e.tail g s.src ≡ true = λ same. (λ i. fits q (ends.0 i) g (eqb-true s.src v same i)) ∙ fit in
+        let both = ends_down down in
+        let tail : (s.src == v) ≡ true → fits q e.tail g s.src ≡ true = λ same. (λ i. fits q (both.0 i) g (eqb-true s.src v same i)) ∙ fit in
         rw (link, down)
         (passes-cond from_v (bytes_eq e.label s.label && fits q e.tail g s.src && fits q e.head g s.dst) (record { above = s.src; below = s.dst })
         ∙ head_one (bytes_eq e.label s.label) (fits q e.tail g s.src) (fits q e.head g s.dst) (s.src == v) (P s.dst) tail
-        ∙ ap (λ h. s.src == v && (bytes_eq e.label s.label && (fits q h g s.dst && P s.dst))) ends.1)
+        ∙ ap (λ h. s.src == v && (bytes_eq e.label s.label && (fits q h g s.dst && P s.dst))) both.1)
 
     one_up : ((edge_at q l.edge).head == u) ≡ false → (s : Triple) → passes from_v (joint_of q t g u s) ≡ (s.dst == v && is_end s.src s.label)
     one_up up s =
         let e = edge_at q l.edge in
-        let ends = ends_up up in
-        let head : (s.dst == v) ≡ true → fits q e.head g s.dst ≡ true = λ same. (λ i. fits q (ends.1 i) g (eqb-true s.dst v same i)) ∙ fit in
+        let both = ends_up up in
+        let head : (s.dst == v) ≡ true → fits q e.head g s.dst ≡ true = λ same. (λ i. fits q (both.1 i) g (eqb-true s.dst v same i)) ∙ fit in
         rw (link, up)
         (passes-cond from_v (bytes_eq e.label s.label && fits q e.tail g s.src && fits q e.head g s.dst) (record { above = s.dst; below = s.src })
         ∙ tail_one (bytes_eq e.label s.label) (fits q e.tail g s.src) (fits q e.head g s.dst) (s.dst == v) (P s.src) head
-        ∙ ap (λ h. s.dst == v && (bytes_eq e.label s.label && (fits q h g s.src && P s.src))) ends.0)
+        ∙ ap (λ h. s.dst == v && (bytes_eq e.label s.label && (fits q h g s.src && P s.src))) both.0)
 
     -- of a vertex that fits the parent, as many joints lead to some vertices as ends of its row that fit
     pub joints_of_row : count_by from_v (filter_map (joint_of q t g u) g.triples)
-        ≡ count_by (λ (x : End). is_end x.other x.label) (ends (direction_to (edge_at q l.edge) u) g v)
+        ≡ count_by leads (ends_of (direction_to (edge_at q l.edge) u) (edge_at q l.edge).label (whole_row (direction_to (edge_at q l.edge) u) g v))
     joints_of_row = count-filter_map from_v (joint_of q t g u) g.triples ∙ by ((edge_at q l.edge).head == u) refl
       where
-        p : End → Bool
-        p x = is_end x.other x.label
-
-        by : (b : Bool) → ((edge_at q l.edge).head == u) ≡ b → count_by (λ s. passes from_v (joint_of q t g u s)) g.triples ≡ count_by (λ (x : End). is_end x.other x.label) (ends (cond b Out In) g v)
+        by : (b : Bool) → ((edge_at q l.edge).head == u) ≡ b
+            → count_by (λ s. passes from_v (joint_of q t g u s)) g.triples ≡ count_by leads (ends_of (cond b Out In) (edge_at q l.edge).label (whole_row (cond b Out In) g v))
         by true down =
             count_same (λ s. passes from_v (joint_of q t g u s)) (λ s. s.src == v && is_end s.dst s.label) g.triples (one_down down)
             ∙ sym (count-filter (λ (s : Triple). is_end s.dst s.label) (λ s. s.src == v) g.triples)
-            ∙ sym (count-map (λ (x : End). is_end x.other x.label) head_of (filter (λ (s : Triple). s.src == v) g.triples))
+            ∙ sym (count-ends_of leads Out (edge_at q l.edge).label (whole_row Out g v))
         by false up =
             count_same (λ s. passes from_v (joint_of q t g u s)) (λ s. s.dst == v && is_end s.src s.label) g.triples (one_up up)
             ∙ sym (count-filter (λ (s : Triple). is_end s.src s.label) (λ s. s.dst == v) g.triples)
-            ∙ sym (count-map (λ (x : End). is_end x.other x.label) tail_of (filter (λ (s : Triple). s.dst == v) g.triples))
+            ∙ sym (count-ends_of leads In (edge_at q l.edge).label (whole_row In g v))

@@ -2,14 +2,12 @@
 use Rattle.std.proofs.Common.{◌≡◌, ◌≢◌, ℕ, ◌+◌, ◌-◌, ◌^◌, ◌<◌, ◌≤◌, Bool, true, false, cond, ◌==◌, ◌&&◌, List, length, get_or, set, refl, sym, ap, subst, ◌∙◌, arith}
 use Rattle.std.specs.Prelude.{Option, None, Some, slice_index}
 use Rattle.std.specs.Option.{option_map, is_some, ForSome, IsSomeAnd}
-use Rattle.std.specs.Str.{bytes_eq}
 use Rattle.std.proofs.lemmas.Bool.{eqb-true, eq-eqb, ne_eqb}
 use Rattle.std.proofs.lemmas.List.{set-set, set-get_or, get_or-set_same}
 use Rattle.flux_model.specs.Exact.{Row, StateRows, row_at}
 use Rattle.dcg_store.specs.Counters.{more_outs}
 use Rattle.dcg_store.specs.Moves.{out_raised}
 use Rattle.dcg_store.proofs.CallerLemmas.{row_at-out_raised}
-use Rattle.dcg_transition.specs.Ends.{End}
 use Rattle.dcg_transition.specs.Filled.{is_open, opens, with_more_outs, HasMoreOuts, HasRoomFor}
 
 outs_same : (k : ℕ) (row : Row) → with_more_outs k 0 row ≡ row
@@ -76,9 +74,8 @@ module _ (u v k : ℕ) where
   outs_beside more old new is x y apart = is.rows x y ∙ ap (λ b. cond (b && y == v) (option_map (with_more_outs k more) (row_at old u v)) (row_at old x y)) (ne_eqb x u apart)
 
   -- what opens now opened before
-  pub opens_before : (more : ℕ) (old new : StateRows) → HasMoreOuts u v k more old new → (child : ℕ) (label : List ℕ) (x : End) (answer : Bool) → child ≢ u → answer ≡ opens new child label x → answer ≡ true → opens old child label x ≡ true
-  opens_before more old new is child label x answer apart told holds =
-      ap (λ o. bytes_eq label x.label && is_open o) (sym (outs_beside more old new is child x.other apart)) ∙ sym told ∙ holds
+  pub opens_before : (more : ℕ) (old new : StateRows) → HasMoreOuts u v k more old new → (child x : ℕ) (answer : Bool) → child ≢ u → answer ≡ opens new child x → answer ≡ true → opens old child x ≡ true
+  opens_before more old new is child x answer apart told holds = ap is_open (sym (outs_beside more old new is child x apart)) ∙ sym told ∙ holds
 
   -- the row that has grown
   pub outs_here : (more : ℕ) (old new : StateRows) → HasMoreOuts u v k more old new → row_at new u v ≡ option_map (with_more_outs k more) (row_at old u v)

@@ -25,10 +25,10 @@ use Rattle.query_tree.proofs.CallerLemmas.{link_within, depth-below}
 use Rattle.dcg_store.proofs.ListLemmas.{In, some_counted, found_in}
 use Rattle.dcg_store.proofs.StateLemmas.{fits_of_reaches}
 use Rattle.dcg_store.proofs.BoundLemmas.{fits-id, length-filter_map}
-use Rattle.dcg_transition.specs.Ends.{ends, direction_to}
+use Rattle.dcg_transition.specs.Ends.{whole_row, ends_of, direction_to}
 use Rattle.dcg_transition.specs.Filled.{begun, ins_at, joins, AreBegun, HasMoreIns, counted_row}
 use Rattle.dcg_transition.specs.Levels.{is_before, IsReached}
-use Rattle.dcg_transition.specs.Branches.{IsBranchOf, joins_from}
+use Rattle.dcg_transition.specs.Branches.{IsBranchOf, ends, joins_from}
 use Rattle.dcg_transition.specs.declared.branch.Branch.{Branch}
 use Rattle.dcg_transition.proofs.CallerLemmas.{reaches-below}
 use Rattle.dcg_transition.proofs.JointLemmas.{count_same, ends_few, ends_down, ends_up, apart, joints_of_row}
@@ -154,20 +154,21 @@ module _ (q : PatternGraph) (t : QueryTree) (belongs : BelongsTo q t) (b : Branc
   parent_reaches : (v : ℕ) → is_some (row_at old b.link.parent v) ≡ reaches to_child b.link.parent v
   parent_reaches v = ap is_some (parent_row v) ∙ some_if (reaches to_child b.link.parent v) (record { ins = in_count to_child b.link.parent v; outs = map nothing (children t b.link.parent) })
 
-  row_joints : (v w : ℕ) → fits q b.link.parent g v ≡ true → count_by (joins g b.label.now b.labels.now w) (ends b.direction g v) ≡ count_by (λ e. e.above == v && e.below == w) (to_child.joints b.child)
+  row_joints : (v w : ℕ) → fits q b.link.parent g v ≡ true → count_by (joins g b.labels.now w) (ends b g v) ≡ count_by (λ e. e.above == v && e.below == w) (to_child.joints b.child)
   row_joints v w fit =
-      (λ i. count_by (joins g (branch.label i) (branch.labels i) w) (ends (branch.direction i) g v))
-      ∙ count_same (joins g (edge_at q b.link.edge).label (slice_index_or q.labels b.child []) w) (λ x. bytes_eq (edge_at q b.link.edge).label x.label && (fits q b.child g x.other && x.other == w)) (ends (direction_to (edge_at q b.link.edge) b.child) g v)
-      (λ x. ap (λ s. bytes_eq (edge_at q b.link.edge).label x.label && ((s && fits_labels g (slice_index_or q.labels b.child []) x.other) && x.other == w)) (sym inside))
+      (λ i. count_by (joins g (branch.labels i) w) (ends_of (branch.direction i) (branch.label i) (whole_row (branch.direction i) g v)))
+      ∙ count_same (joins g (slice_index_or q.labels b.child []) w) (λ x. fits q b.child g x && x == w)
+      (ends_of (direction_to (edge_at q b.link.edge) b.child) (edge_at q b.link.edge).label (whole_row (direction_to (edge_at q b.link.edge) b.child) g v))
+      (λ x. ap (λ s. (s && fits_labels g (slice_index_or q.labels b.child []) x) && x == w) (sym inside))
       ∙ sym (joints_of_row q t belongs b.child b.link branch.link g v (λ x. x == w) fit)
     where
       inside : nat_lt b.child (vertex_count q) ≡ true
       inside = lt-ltb b.child (vertex_count q) (omega (arith, link_within t b.child b.link branch.link, belongs.vertices))
 
   from_joints : (w v : ℕ) → joins_from old b g w v ≡ cond (reaches to_child b.link.parent v) (count_by (λ e. e.above == v && e.below == w) (to_child.joints b.child)) 0
-  from_joints w v = ap (λ s. cond s (count_by (joins g b.label.now b.labels.now w) (ends b.direction g v)) 0) (parent_reaches v) ∙ by (reaches to_child b.link.parent v) refl
+  from_joints w v = ap (λ s. cond s (count_by (joins g b.labels.now w) (ends b g v)) 0) (parent_reaches v) ∙ by (reaches to_child b.link.parent v) refl
     where
-      by : (s : Bool) → reaches to_child b.link.parent v ≡ s → cond s (count_by (joins g b.label.now b.labels.now w) (ends b.direction g v)) 0 ≡ cond s (count_by (λ e. e.above == v && e.below == w) (to_child.joints b.child)) 0
+      by : (s : Bool) → reaches to_child b.link.parent v ≡ s → cond s (count_by (joins g b.labels.now w) (ends b g v)) 0 ≡ cond s (count_by (λ e. e.above == v && e.below == w) (to_child.joints b.child)) 0
       by true r = row_joints v w (fits_of_reaches to_child (length t.links) b.link.parent v r)
       by false r = refl
 
@@ -184,7 +185,7 @@ module _ (q : PatternGraph) (t : QueryTree) (belongs : BelongsTo q t) (b : Branc
 
     -- no in counter comes to its bound
     pub room : (i v w : ℕ) (d : StateRows) → HasMoreIns b.child (λ x. sum_by (joins_from old b g x) (take i listed)) old d
-        → ins_at d b.child w + count_by (joins g b.label.now b.labels.now w) (ends b.direction g v) < 2 ^ 32 - 1
+        → ins_at d b.child w + count_by (joins g b.labels.now w) (ends b g v) < 2 ^ 32 - 1
     room i v w d grown =
         omega (
           arith,
@@ -193,8 +194,8 @@ module _ (q : PatternGraph) (t : QueryTree) (belongs : BelongsTo q t) (b : Branc
           sum_by-take-le (joins_from old b g w) listed i,
           from_listed w,
           in_count_few q t belongs b.child b.link branch.link g w,
-          count_by-le-length (joins g b.label.now b.labels.now w) (ends b.direction g v),
-          ends_few g b.direction v,
+          count_by-le-length (joins g b.labels.now w) (ends b g v),
+          ends_few g b.direction b.label.now v,
           held.within.triples,
           held.fair.edges.1,
         )
@@ -206,7 +207,7 @@ module _ (q : PatternGraph) (t : QueryTree) (belongs : BelongsTo q t) (b : Branc
         more_twice b.child (λ x. sum_by (joins_from old b g x) (take i listed)) (λ w. joins_from mid b g w v)
         (λ x. sum_by (joins_from old b g x) (take (i + 1) listed)) old mid new so_far next
         (λ w.
-        let same = ap (λ o. cond (is_some o) (count_by (joins g b.label.now b.labels.now w) (ends b.direction g v)) 0) (so_far.beside.others b.link.parent v (λ e. apart q t belongs b.child b.link branch.link (sym e))) in
+        let same = ap (λ o. cond (is_some o) (count_by (joins g b.labels.now w) (ends b g v)) 0) (so_far.beside.others b.link.parent v (λ e. apart q t belongs b.child b.link branch.link (sym e))) in
         let within = slice_get_within listed i v at in
         let here = ap (joins_from old b g w) (get_or_from_slice_get listed i v v at) in
         omega (arith, sum_by_more (joins_from old b g w) listed i v within, here, same))

@@ -6,9 +6,10 @@ use Rattle.flux_model.specs.Exact.{StateRows, row_at}
 use Rattle.flux_model.specs.Graph.{Graph}
 use Rattle.flux_model.specs.Pattern.{PatternGraph}
 use Rattle.flux_model.specs.Tree.{QueryTree, link_at, edge_at, children}
-use Rattle.dcg_transition.specs.Ends.{ends, direction_to}
+use Rattle.dcg_transition.specs.Ends.{whole_row, ends_of, direction_to}
 use Rattle.dcg_transition.specs.Filled.{ins_at, joins, opens, with_more_outs}
 use Rattle.dcg_transition.specs.declared.branch.Branch.{Branch}
+use Rattle.dcg_transition.specs.declared.graph_row.GraphRow.{GraphRow}
 
 -- it is the tree edge that its child hangs by
 pub record IsBranchOf (q : PatternGraph) (t : QueryTree) (b : Branch) : Type 0 where
@@ -18,9 +19,17 @@ pub record IsBranchOf (q : PatternGraph) (t : QueryTree) (b : Branch) : Type 0 w
   pub labels : b.labels.now ≡ slice_index_or q.labels b.child []
   pub direction : b.direction ≡ direction_to (edge_at q b.link.edge) b.child
 
+-- the row of v along it
+abbrev pub row_along : Branch → ℕ → GraphRow
+row_along b v = record { vertex = v; direction = b.direction; label = b.label }
+
+-- the other ends of the triples of v along it
+abbrev pub ends : Branch → Graph → ℕ → List ℕ
+ends b g v = ends_of b.direction b.label.now (whole_row b.direction g v)
+
 -- how many joints v has to w
 abbrev pub joins_to : Branch → Graph → ℕ → ℕ → ℕ
-joins_to b g v w = count_by (joins g b.label.now b.labels.now w) (ends b.direction g v)
+joins_to b g v w = count_by (joins g b.labels.now w) (ends b g v)
 
 -- how many joints v has to w, where the parent's pair with v has a row
 abbrev pub joins_from : StateRows → Branch → Graph → ℕ → ℕ → ℕ
@@ -32,7 +41,7 @@ HasRoomToJoin d b g v = (w : ℕ) → ins_at d b.child w + joins_to b g v w < 2 
 
 -- how many joints v has to explicit pairs of the child
 abbrev pub opens_from : StateRows → Branch → Graph → ℕ → ℕ
-opens_from d b g v = count_by (opens d b.child b.label.now) (ends b.direction g v)
+opens_from d b g v = count_by (opens d b.child) (ends b g v)
 
 -- of the vertices of the list, those that are v bring so many joints to explicit pairs of the child
 abbrev pub opens_among : StateRows → Branch → Graph → List ℕ → ℕ → ℕ

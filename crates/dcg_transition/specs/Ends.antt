@@ -1,5 +1,6 @@
--- The rows of graph vertices in the direction of a tree edge.
-use Rattle.std.specs.Prelude.{ℕ, ◌==◌, List, map, if◌then◌else◌}
+-- The rows of graph vertices in a direction, and the other ends of their triples.
+use Rattle.std.specs.Prelude.{ℕ, ◌==◌, List, map, filter, if◌then◌else◌}
+use Rattle.std.specs.Str.{bytes_eq}
 use Rattle.flux_model.specs.Graph.{Graph}
 use Rattle.flux_model.specs.declared.graph.Triple.{Triple}
 use Rattle.flux_model.specs.declared.pattern.PatternEdge.{PatternEdge}
@@ -7,33 +8,46 @@ use Rattle.label_graph.specs.Rows.{triples_from, triples_to}
 use Rattle.label_graph.specs.declared.spot.Spot.{Spot}
 use Rattle.dcg_transition.specs.declared.direction.Direction.{Direction}
 use Rattle.dcg_transition.specs.declared.direction.Direction.TheVariants.{Out, In}
-
--- of a triple that a row has: its label, and its end that is not the row's vertex
-pub record End : Type 0 where
-  pub label : List ℕ
-  pub other : ℕ
-
-abbrev pub head_of : Triple → End
-head_of t = record { label = t.label; other = t.dst }
-
-abbrev pub tail_of : Triple → End
-tail_of t = record { label = t.label; other = t.src }
+use Rattle.dcg_transition.specs.declared.graph_row.GraphRow.{GraphRow}
 
 -- the direction in which the edge leads to its end u
 abbrev pub direction_to : PatternEdge → ℕ → Direction
 direction_to e u = if e.head == u then Out else In
 
--- the ends of v's triples in the direction
-abbrev pub ends : Direction → Graph → ℕ → List End
-ends Out g v = map head_of (triples_from g v)
-ends In g v = map tail_of (triples_to g v)
+-- v's triples in the direction
+abbrev pub whole_row : Direction → Graph → ℕ → List Triple
+whole_row Out g v = triples_from g v
+whole_row In g v = triples_to g v
 
--- the ends that v's row has from a place on, where the out row and the in row have these triples
-abbrev pub ends_from : (ℕ → Spot → List Triple) → (ℕ → Spot → List Triple) → Direction → ℕ → Spot → List End
-ends_from outs ins Out v at = map head_of (outs v at)
-ends_from outs ins In v at = map tail_of (ins v at)
+-- the triple in v's row that leads to the other end
+abbrev pub triple_of : Direction → ℕ → List ℕ → ℕ → Triple
+triple_of Out v label other = record { src = v; label = label; dst = other }
+triple_of In v label other = record { src = other; label = label; dst = v }
 
--- it is a place of v's row, where the rows have these places
-abbrev pub IsPlaceOf : (ℕ → Spot → Type 0) → (ℕ → Spot → Type 0) → Direction → ℕ → Spot → Type 0
-IsPlaceOf is_out is_in Out v at = is_out v at
-IsPlaceOf is_out is_in In v at = is_in v at
+abbrev pub other_end : Direction → Triple → ℕ
+other_end Out t = t.dst
+other_end In t = t.src
+
+-- the other ends of the triples of a label
+abbrev pub ends_of : Direction → List ℕ → List Triple → List ℕ
+ends_of direction label ts = map (other_end direction) (filter (λ (t : Triple). bytes_eq label t.label) ts)
+
+-- ---- a row from a place on, by what the out rows and the in rows have there
+
+abbrev pub from_place : Direction → (ℕ → Spot → List Triple) → (ℕ → Spot → List Triple) → ℕ → Spot → List Triple
+from_place Out outs ins = outs
+from_place In outs ins = ins
+
+abbrev pub row_from : (ℕ → Spot → List Triple) → (ℕ → Spot → List Triple) → GraphRow → Spot → List Triple
+row_from outs ins row at = from_place row.direction outs ins row.vertex at
+
+abbrev pub ends_from : (ℕ → Spot → List Triple) → (ℕ → Spot → List Triple) → GraphRow → Spot → List ℕ
+ends_from outs ins row at = ends_of row.direction row.label.now (row_from outs ins row at)
+
+-- it is a place of the row
+abbrev pub IsPlace : Direction → (ℕ → Spot → Type 0) → (ℕ → Spot → Type 0) → ℕ → Spot → Type 0
+IsPlace Out is_out is_in = is_out
+IsPlace In is_out is_in = is_in
+
+abbrev pub IsPlaceOf : (ℕ → Spot → Type 0) → (ℕ → Spot → Type 0) → GraphRow → Spot → Type 0
+IsPlaceOf is_out is_in row at = IsPlace row.direction is_out is_in row.vertex at

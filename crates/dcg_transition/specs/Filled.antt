@@ -2,14 +2,12 @@
 use Rattle.std.specs.Prelude.{◌≡◌, ◌≢◌, ◌<◌, ◌^◌, ◌-◌, ℕ, zero, suc, ◌+◌, ◌==◌, ◌&&◌, Bool, false, List, length, map, replicate, slice_index, slice_set, Option, Some, None, if◌then◌else◌}
 use Rattle.std.specs.Option.{option_map, option_map_or}
 use Rattle.std.specs.List.{range_with_len}
-use Rattle.std.specs.Str.{bytes_eq}
 use Rattle.flux_model.specs.Graph.{Graph}
 use Rattle.flux_model.specs.Pattern.{fits_labels}
 use Rattle.flux_model.specs.Tree.{QueryTree, children}
 use Rattle.flux_model.specs.States.{Joined, reaches}
 use Rattle.flux_model.specs.Exact.{Row, StateRows, row_at, in_count, out_count}
 use Rattle.dcg_store.specs.Counters.{is_full}
-use Rattle.dcg_transition.specs.Ends.{End}
 
 -- how many children each vertex has
 abbrev pub child_counts : QueryTree → List ℕ
@@ -42,9 +40,9 @@ pub record HasMoreIns (u : ℕ) (more : ℕ → ℕ) (old new : StateRows) : Typ
   pub begun : AreBegun new u
   pub ins : (v : ℕ) → ins_at new u v ≡ ins_at old u v + more v
 
--- whether the end makes a joint to w, where the tree edge has this label and the child has these labels
-abbrev pub joins : Graph → List ℕ → List (List ℕ) → ℕ → End → Bool
-joins g label labels w x = bytes_eq label x.label && (fits_labels g labels x.other && x.other == w)
+-- whether the end x makes a joint to w, where the child has these labels
+abbrev pub joins : Graph → List (List ℕ) → ℕ → ℕ → Bool
+joins g labels w x = fits_labels g labels x && x == w
 
 -- ---- rows with some out counters raised
 
@@ -53,9 +51,9 @@ abbrev pub is_open : Option Row → Bool
 is_open None = false
 is_open (Some row) = is_full row
 
--- whether the end makes a joint to an explicit pair of u
-abbrev pub opens : StateRows → ℕ → List ℕ → End → Bool
-opens d u label x = bytes_eq label x.label && is_open (row_at d u x.other)
+-- whether the end x makes a joint to an explicit pair of u
+abbrev pub opens : StateRows → ℕ → ℕ → Bool
+opens d u x = is_open (row_at d u x)
 
 -- so much more in the out counter of the child of number k
 abbrev pub with_more_outs : ℕ → ℕ → Row → Row

@@ -1,9 +1,10 @@
 //! `Branch`: the tree edge that a pattern vertex hangs by.
 ghost use Rattle.std.specs.Prelude.{◌≡◌, ◌≢◌, ◌<◌, length};
 ghost use Rattle.flux_model.specs.Tree.{BelongsTo};
-ghost use Rattle.dcg_transition.specs.Branches.{IsBranchOf};
+ghost use Rattle.dcg_transition.specs.Branches.{IsBranchOf, row_along};
 
 use crate::direction::Direction;
+use crate::graph_row::GraphRow;
 use flux_model::{Labels, Pattern, Text, TreeLink};
 use query_tree::QueryTree;
 
@@ -20,6 +21,7 @@ pub struct Branch<'a> {
     pub label: &'a Text,
     /// The labels of the vertex.
     pub labels: &'a Labels,
+    /// The direction in which the edge leads to the vertex.
     pub direction: Direction,
 }
 
@@ -41,6 +43,17 @@ impl<'a> Branch<'a> {
             label: &edge.label,
             labels: pattern.labels(u),
             direction: Direction::to(edge, u),
+        }
+    }
+
+    /// The row of `v` in which the joints to the child are found.
+    pub fn row(&self, v: u32) -> GraphRow<'a>
+        ensures { result ≡ row_along self.now v }
+    {
+        GraphRow {
+            vertex: v,
+            direction: self.direction,
+            label: self.label,
         }
     }
 }

@@ -7,13 +7,13 @@ ghost use Rattle.flux_model.specs.States.{joined};
 ghost use Rattle.flux_model.specs.Exact.{row_at, IsExact};
 ghost use Rattle.query_tree.specs.Depth.{depth};
 ghost use Rattle.dcg_transition.specs.Branches.{opens_from};
-ghost use Rattle.dcg_transition.specs.Filled.{is_open, opens, HasMoreOuts, HasRoomFor};
+ghost use Rattle.dcg_transition.specs.Filled.{is_open, HasMoreOuts, HasRoomFor};
 ghost use Rattle.dcg_transition.specs.Levels.{depths_of, IsCounted, IsCountedTo};
 
 use crate::branch::Branch;
 use dcg_store::Dcg;
 use flux_model::{Ledger, Pattern, State, Steps};
-use label_graph::{HoldGraph, ReadGraph, Turn};
+use label_graph::{HoldGraph, ReadGraph};
 use query_tree::QueryTree;
 
 /// Raises the out counters of all rows, where none is raised yet. `depths` has the depth of each vertex.
@@ -122,27 +122,14 @@ fn extend_ends<G: ReadGraph<L>, L: Ledger>(
     requires row { IsSomeAnd (row_at dcg.old branch.now.link.parent v) (HasRoomFor branch.now.number (opens_from dcg.old branch.now (G.graph graph.now) v)) }
     ensures { HasMoreOuts branch.now.link.parent v branch.now.number (opens_from dcg.old branch.now (G.graph graph.now) v) dcg.old dcg.new }
 {
-    let mut at = branch.direction.row(graph, v);
-    while let Some(turn) = branch.direction.turn(graph, v, at, steps) {
-        at = turn.next;
-        if leads_on(dcg, branch, &turn, steps) {
+    let row = branch.row(v);
+    let mut at = row.first(graph);
+    while let Some((w, next)) = row.next(graph, at, steps) {
+        at = next;
+        if is_explicit(dcg, branch.child, w, steps) {
             dcg.raise_out(branch.link.parent, v, branch.number, steps);
         }
     }
-}
-
-/// Whether a triple of the parent's row is a joint to an explicit pair of the child.
-fn leads_on<L: Ledger>(
-    dcg: &Dcg,
-    branch: &Branch<'_>,
-    turn: &Turn<'_>,
-    steps: &mut Steps<L>,
-) -> bool
-    requires whole { dcg.now.is_broken ≡ false }
-    requires child { branch.now.child < length dcg.now.children }
-    ensures { result ≡ opens dcg.now branch.now.child branch.now.label.now (record { label = turn.now.label.now; other = turn.now.other }) }
-{
-    *branch.label == *turn.label && is_explicit(dcg, branch.child, turn.other, steps)
 }
 
 /// Whether the pair of `u` and `w` is explicit by its row.

@@ -1,9 +1,7 @@
 //! The rows, from the root down.
-ghost use Rattle.std.specs.Prelude.{◌≡◌, ◌≢◌, ◌<◌, ◌+◌, ◌&&◌, length, false, IsTrue, OnOk};
+ghost use Rattle.std.specs.Prelude.{◌≡◌, ◌≢◌, ◌<◌, ◌+◌, length, false, IsTrue, OnOk};
 ghost use Rattle.std.specs.FinMap.{empty};
-ghost use Rattle.std.specs.Str.{bytes_eq};
 ghost use Rattle.flux_model.specs.Graph.{has_vertex};
-ghost use Rattle.flux_model.specs.Pattern.{fits_labels};
 ghost use Rattle.flux_model.specs.Tree.{BelongsTo};
 ghost use Rattle.flux_model.specs.States.{joined};
 ghost use Rattle.query_tree.specs.Depth.{depth};
@@ -14,7 +12,7 @@ ghost use Rattle.dcg_transition.specs.Levels.{depths_of, IsReachedTo, IsCounted}
 use crate::branch::Branch;
 use dcg_store::Dcg;
 use flux_model::{Ledger, Pattern, State, Steps};
-use label_graph::{HoldGraph, ReadGraph, Turn};
+use label_graph::{HoldGraph, ReadGraph};
 use query_tree::QueryTree;
 use std::alloc::AllocError;
 
@@ -147,25 +145,13 @@ fn reach_ends<G: ReadGraph<L>, L: Ledger>(
     requires room { HasRoomToJoin dcg.old branch.now (G.graph graph.now) v }
     ensures { OnOk result (HasMoreIns branch.now.child (joins_to branch.now (G.graph graph.now) v) dcg.old dcg.new) }
 {
-    let mut at = branch.direction.row(graph, v);
-    while let Some(turn) = branch.direction.turn(graph, v, at, steps) {
-        at = turn.next;
-        if is_joint(graph, branch, &turn, steps) {
-            dcg.raise_in(branch.child, turn.other, steps)?;
+    let row = branch.row(v);
+    let mut at = row.first(graph);
+    while let Some((w, next)) = row.next(graph, at, steps) {
+        at = next;
+        if graph.fits(w, branch.labels, steps) {
+            dcg.raise_in(branch.child, w, steps)?;
         }
     }
     Ok(())
-}
-
-/// Whether a triple of the parent's row is a joint: its label is the branch's, and its other end fits the child.
-fn is_joint<G: ReadGraph<L>, L: Ledger>(
-    graph: &G,
-    branch: &Branch<'_>,
-    turn: &Turn<'_>,
-    steps: &mut Steps<L>,
-) -> bool
-    requires { IsTrue (has_vertex (G.graph graph.now) turn.now.other) }
-    ensures { result ≡ (bytes_eq branch.now.label.now turn.now.label.now && fits_labels (G.graph graph.now) branch.now.labels.now turn.now.other) }
-{
-    *branch.label == *turn.label && graph.fits(turn.other, branch.labels, steps)
 }

@@ -22,12 +22,12 @@ use Rattle.label_graph.specs.Sorted.{In}
 use Rattle.label_graph.proofs.RowLemmas.{AreOnce, once_permutation, once_by_place, in_by_place, place_of}
 use Rattle.match_order.specs.Whole.{vertices}
 use Rattle.match_order.proofs.CallerLemmas.{place_of_vertex, vertex_within, one_place}
-use Rattle.tree_search.specs.Ends.{whole_row, ends_of}
+use Rattle.dcg_transition.specs.Ends.{whole_row, ends_of}
+use Rattle.dcg_transition.specs.declared.direction.Direction.{Direction}
+use Rattle.dcg_transition.specs.declared.direction.Direction.TheVariants.{Out, In as Inward}
 use Rattle.tree_search.specs.Given.{IsReady, IsGiven, IsRowAt, nth_vertex, nth_anchor, may_have}
 use Rattle.tree_search.specs.Members.{members_from, members_over}
 use Rattle.tree_search.specs.Spent.{MeetsNoDeadEnd, test_cost, cost_from, members_cost}
-use Rattle.tree_search.specs.declared.row.Side.{Side}
-use Rattle.tree_search.specs.declared.row.Side.TheVariants.{Out, In as Inward}
 use Rattle.tree_search.proofs.MemberLemmas.{given_id}
 use Rattle.tree_search.proofs.PassLemmas.{member}
 use Rattle.tree_search.proofs.GivenLemmas.{row_split}
@@ -72,7 +72,7 @@ end_paid e n = let two : (e + 2) * (n + 1) ≡ e * (n + 1) + 2 * (n + 1) = add-m
 
 -- ---- rows
 
-row_length : (g : Graph) (v : ℕ) (side : Side) → length (whole_row side g v) ≤ degree g v
+row_length : (g : Graph) (v : ℕ) (direction : Direction) → length (whole_row direction g v) ≤ degree g v
 row_length g v Out = omega (arith, length-filter (λ (t : Triple). t.src == v) g.triples)
 row_length g v Inward = omega (arith, length-filter (λ (t : Triple). t.dst == v) g.triples)
 
@@ -96,11 +96,11 @@ module _ (q : PatternGraph) (t : QueryTree) (d : StateRows) (g : Graph) (o : Sea
 
   -- ---- the row at place k is paid for
 
-  pub row_paid : (k : ℕ) → 1 ≤ k → k < length (vertices o) → (p : List (Option ℕ)) → IsGiven q t g o k p → (v : ℕ) → id_of p (nth_anchor o k) ≡ Some v → (side : Side) (rows : List Triple) → IsPermutation rows (whole_row side g v)
+  pub row_paid : (k : ℕ) → 1 ≤ k → k < length (vertices o) → (p : List (Option ℕ)) → IsGiven q t g o k p → (v : ℕ) → id_of p (nth_anchor o k) ≡ Some v → (direction : Direction) (rows : List Triple) → IsPermutation rows (whole_row direction g v)
       → (over : List (List ℕ)) → IsPermutation over (members_from q g p)
       → (length q.edges + 2) * (length rows + 1) + sum_by (cost_from q t g o (k + 1)) over ≤ members_cost q t g o k p
-  row_paid k some few p known v has side rows all over same =
-      let few_rows : length rows ≤ degree g v = omega (arith, length_permutation rows (whole_row side g v) all, row_length g v side) in
+  row_paid k some few p known v has direction rows all over same =
+      let few_rows : length rows ≤ degree g v = omega (arith, length_permutation rows (whole_row direction g v) all, row_length g v direction) in
       let m = goes_somewhere q t d g o ready start live (left k few) k (left_is k few) some p known in
       let up = anchor_above q t d g o ready start k some few in
       let at : slice_index m.0 up.0.parent ≡ v = ap (slice_index m.0) up.2 ∙ given_id p m.0 (nth_anchor o k) v (member q g p m.0 m.1).1 has in
@@ -193,12 +193,12 @@ module _ (q : PatternGraph) (t : QueryTree) (d : StateRows) (g : Graph) (o : Sea
   -- ---- the loop over a row
 
   -- at first the row and the embeddings over its candidates are to be paid
-  pub start_paid : (k : ℕ) → 1 ≤ k → k < length (vertices o) → (p : List (Option ℕ)) → IsGiven q t g o k p → (w : ℕ) → w ≡ nth_vertex o k → (v : ℕ) (side : Side) (label : List ℕ) → IsRowAt q t o k p v side label → (rows : List Triple) → IsPermutation rows (whole_row side g v)
-      → (length q.edges + 2) * (length rows + 1) + sum_by (cost_from q t g o (k + 1)) (members_over q g p w (ends_of side label rows)) ≤ members_cost q t g o k p
-  start_paid k some few p known w at v side label row rows all =
-      let split = row_split q t d g o ready k few p known some v side label row rows all in
-      let split' : IsPermutation (members_over q g p w (ends_of side label rows)) (members_from q g p) = subst (λ u. IsPermutation (members_over q g p u (ends_of side label rows)) (members_from q g p)) (sym at) split in
-      row_paid k some few p known v row.anchor side rows all (members_over q g p w (ends_of side label rows)) split'
+  pub start_paid : (k : ℕ) → 1 ≤ k → k < length (vertices o) → (p : List (Option ℕ)) → IsGiven q t g o k p → (w : ℕ) → w ≡ nth_vertex o k → (v : ℕ) (direction : Direction) (label : List ℕ) → IsRowAt q t o k p v direction label → (rows : List Triple) → IsPermutation rows (whole_row direction g v)
+      → (length q.edges + 2) * (length rows + 1) + sum_by (cost_from q t g o (k + 1)) (members_over q g p w (ends_of direction label rows)) ≤ members_cost q t g o k p
+  start_paid k some few p known w at v direction label row rows all =
+      let split = row_split q t d g o ready k few p known some v direction label row rows all in
+      let split' : IsPermutation (members_over q g p w (ends_of direction label rows)) (members_from q g p) = subst (λ u. IsPermutation (members_over q g p u (ends_of direction label rows)) (members_from q g p)) (sym at) split in
+      row_paid k some few p known v row.anchor direction rows all (members_over q g p w (ends_of direction label rows)) split'
 
 -- ---- one turn
 

@@ -18,9 +18,9 @@ use Rattle.flux_laws.proofs.AscendingLemmas.{below_rest, tail_ascending, filter-
 use Rattle.flux_laws.proofs.SetsLemmas.{triple_total}
 use Rattle.label_graph.specs.Sorted.{In}
 use Rattle.label_graph.proofs.SortedLemmas.{filter_in, in_filter, mapped_in, in_mapped, in_permutation, in_permutation_back}
-use Rattle.tree_search.specs.Ends.{whole_row, triple_of, other_end, ends_of}
-use Rattle.tree_search.specs.declared.row.Side.{Side}
-use Rattle.tree_search.specs.declared.row.Side.TheVariants.{Out, In as Inward}
+use Rattle.dcg_transition.specs.Ends.{whole_row, triple_of, other_end, ends_of}
+use Rattle.dcg_transition.specs.declared.direction.Direction.{Direction}
+use Rattle.dcg_transition.specs.declared.direction.Direction.TheVariants.{Out, In as Inward}
 use Rattle.tree_search.proofs.EmbeddingLemmas.{triple_in, in_triple}
 
 -- ---- lists
@@ -79,52 +79,52 @@ same_triple : (s t : Triple) → s.src ≡ t.src → s.label ≡ t.label → s.d
 same_triple s t a b c = λ i. record { src = a i; label = b i; dst = c i }
 
 module _ (g : Graph) (v : ℕ) where
-  row_distinct : IsGraph g → (side : Side) → IsDistinct (eq_by_cmp triple_cmp) (whole_row side g v)
+  row_distinct : IsGraph g → (direction : Direction) → IsDistinct (eq_by_cmp triple_cmp) (whole_row direction g v)
   row_distinct is Out = distinct_ascending _ (filter-ascending triple_cmp triple_total (λ (t : Triple). t.src == v) g.triples is.ascending_triples)
   row_distinct is Inward = distinct_ascending _ (filter-ascending triple_cmp triple_total (λ (t : Triple). t.dst == v) g.triples is.ascending_triples)
 
   -- a triple of the row is told by its label and its other end
-  in_row : (side : Side) (s : Triple) → In (whole_row side g v) s → In g.triples s × (triple_of side v s.label (other_end side s) ≡ s)
+  in_row : (direction : Direction) (s : Triple) → In (whole_row direction g v) s → In g.triples s × (triple_of direction v s.label (other_end direction s) ≡ s)
   in_row Out s i = let r = filter_in (λ (t : Triple). t.src == v) g.triples s i in (r.0, same_triple _ s (sym (eqb-true s.src v r.1)) refl refl)
   in_row Inward s i = let r = filter_in (λ (t : Triple). t.dst == v) g.triples s i in (r.0, same_triple _ s refl refl (sym (eqb-true s.dst v r.1)))
 
-  row_has : (side : Side) (label : List ℕ) (x : ℕ) → In g.triples (triple_of side v label x) → In (whole_row side g v) (triple_of side v label x)
+  row_has : (direction : Direction) (label : List ℕ) (x : ℕ) → In g.triples (triple_of direction v label x) → In (whole_row direction g v) (triple_of direction v label x)
   row_has Out label x i = in_filter (λ (t : Triple). t.src == v) g.triples (triple_of Out v label x) i (eq-eqb v v refl)
   row_has Inward label x i = in_filter (λ (t : Triple). t.dst == v) g.triples (triple_of Inward v label x) i (eq-eqb v v refl)
 
-  label_of : (side : Side) (label : List ℕ) (x : ℕ) → bytes_eq (triple_of side v label x).label label ≡ true
+  label_of : (direction : Direction) (label : List ℕ) (x : ℕ) → bytes_eq label (triple_of direction v label x).label ≡ true
   label_of Out label x = nat_list_eq_equiv.refl label
   label_of Inward label x = nat_list_eq_equiv.refl label
 
-  end_of : (side : Side) (label : List ℕ) (x : ℕ) → other_end side (triple_of side v label x) ≡ x
+  end_of : (direction : Direction) (label : List ℕ) (x : ℕ) → other_end direction (triple_of direction v label x) ≡ x
   end_of Out label x = refl
   end_of Inward label x = refl
 
-  module _ (side : Side) (label : List ℕ) (rows : List Triple) (all : IsPermutation rows (whole_row side g v)) where
+  module _ (direction : Direction) (label : List ℕ) (rows : List Triple) (all : IsPermutation rows (whole_row direction g v)) where
     abbrev has_label : Triple → Bool
-    has_label t = bytes_eq t.label label
+    has_label t = bytes_eq label t.label
 
-    pub ends_distinct : IsGraph g → IsDistinct nat_eq (ends_of side label rows)
+    pub ends_distinct : IsGraph g → IsDistinct nat_eq (ends_of direction label rows)
     ends_distinct is =
-        distinct_values has_label (other_end side) rows
-        (IsDistinct-IsPermutation (eq_by_cmp triple_cmp) (eq_by_cmp_equiv triple_total).symm (whole_row side g v) rows (IsPermutation-sym rows (whole_row side g v) all) (row_distinct is side))
+        distinct_values has_label (other_end direction) rows
+        (IsDistinct-IsPermutation (eq_by_cmp triple_cmp) (eq_by_cmp_equiv triple_total).symm (whole_row direction g v) rows (IsPermutation-sym rows (whole_row direction g v) all) (row_distinct is direction))
         (λ s t i j a b same.
-        let p = in_row side s (in_permutation_back rows (whole_row side g v) all s i) in
-        let r = in_row side t (in_permutation_back rows (whole_row side g v) all t j) in
-        let labels : s.label ≡ t.label = same_text s.label label (sym a) ∙ sym (same_text t.label label (sym b)) in
-        sym p.1 ∙ (λ k. triple_of side v (labels k) (same k)) ∙ r.1)
+        let p = in_row direction s (in_permutation_back rows (whole_row direction g v) all s i) in
+        let r = in_row direction t (in_permutation_back rows (whole_row direction g v) all t j) in
+        let labels : s.label ≡ t.label = sym (same_text label s.label (sym a)) ∙ same_text label t.label (sym b) in
+        sym p.1 ∙ (λ k. triple_of direction v (labels k) (same k)) ∙ r.1)
 
-    pub ends_have : (x : ℕ) → has_triple g (triple_of side v label x) ≡ true → In (ends_of side label rows) x
+    pub ends_have : (x : ℕ) → has_triple g (triple_of direction v label x) ≡ true → In (ends_of direction label rows) x
     ends_have x h =
-        let there = in_permutation rows (whole_row side g v) all (triple_of side v label x) (row_has side label x (triple_in g (triple_of side v label x) h)) in
-        let kept = in_filter has_label rows (triple_of side v label x) there (label_of side label x) in
-        subst (λ y. In (ends_of side label rows) y) (end_of side label x) (in_mapped (other_end side) (filter has_label rows) (triple_of side v label x) kept)
+        let there = in_permutation rows (whole_row direction g v) all (triple_of direction v label x) (row_has direction label x (triple_in g (triple_of direction v label x) h)) in
+        let kept = in_filter has_label rows (triple_of direction v label x) there (label_of direction label x) in
+        subst (λ y. In (ends_of direction label rows) y) (end_of direction label x) (in_mapped (other_end direction) (filter has_label rows) (triple_of direction v label x) kept)
 
-    pub end_stands : (x : ℕ) → In (ends_of side label rows) x → has_triple g (triple_of side v label x) ≡ true
+    pub end_stands : (x : ℕ) → In (ends_of direction label rows) x → has_triple g (triple_of direction v label x) ≡ true
     end_stands x i =
-        let s = mapped_in (other_end side) (filter has_label rows) x i in
+        let s = mapped_in (other_end direction) (filter has_label rows) x i in
         let r = filter_in has_label rows s.0 s.1 in
-        let p = in_row side s.0 (in_permutation_back rows (whole_row side g v) all s.0 r.0) in
-        let labels : s.0.label ≡ label = same_text s.0.label label (sym r.1) in
-        let same : triple_of side v label x ≡ s.0 = (λ k. triple_of side v (sym labels k) (s.2 k)) ∙ p.1 in
-        in_triple g (triple_of side v label x) (subst (λ z. In g.triples z) (sym same) p.0)
+        let p = in_row direction s.0 (in_permutation_back rows (whole_row direction g v) all s.0 r.0) in
+        let labels : s.0.label ≡ label = sym (same_text label s.0.label (sym r.1)) in
+        let same : triple_of direction v label x ≡ s.0 = (λ k. triple_of direction v (sym labels k) (s.2 k)) ∙ p.1 in
+        in_triple g (triple_of direction v label x) (subst (λ z. In g.triples z) (sym same) p.0)

@@ -22,11 +22,11 @@ use Rattle.match_order.proofs.LinkLemmas.{anchor_is}
 use Rattle.nontree_test.proofs.CallerLemmas.{keeps_mode_at_start, keeps_non_tree_at_start, keeps_mode_with, keeps_non_tree_with}
 use Rattle.query_tree.specs.Depth.{depth}
 use Rattle.query_tree.proofs.CallerLemmas.{link_within, parent_within, is_child_of, depth-below}
-use Rattle.tree_search.specs.Ends.{whole_row, triple_of, ends_of, side_of}
+use Rattle.dcg_transition.specs.Ends.{whole_row, triple_of, ends_of, direction_to}
+use Rattle.dcg_transition.specs.declared.direction.Direction.{Direction}
+use Rattle.dcg_transition.specs.declared.direction.Direction.TheVariants.{Out, In as Inward}
 use Rattle.tree_search.specs.Given.{IsReady, IsGiven, IsRowAt, nth_vertex, nth_anchor, may_have, edge_of, edge_between}
 use Rattle.tree_search.specs.Members.{members_from, members_over, GrewUpTo}
-use Rattle.tree_search.specs.declared.row.Side.{Side}
-use Rattle.tree_search.specs.declared.row.Side.TheVariants.{Out, In as Inward}
 use Rattle.tree_search.proofs.GrowthLemmas.{grew_none}
 use Rattle.tree_search.proofs.MemberLemmas.{given_id, members_split}
 use Rattle.tree_search.proofs.EmbeddingLemmas.{edge_has, vertex_of_fits}
@@ -63,12 +63,12 @@ turned e w a (inr j) = inl j
 
 -- the triple that an id of a vertex makes with the anchor's
 triple_at : (e : PatternEdge) (w a x v : ℕ) → w ≢ a → Joins e w a → (f : ℕ → ℕ) → f w ≡ x → f a ≡ v
-    → triple_of (side_of a e) v e.label x ≡ record { src = f e.tail; label = e.label; dst = f e.head }
+    → triple_of (direction_to e w) v e.label x ≡ record { src = f e.tail; label = e.label; dst = f e.head }
 triple_at e w a x v other (inl (h, k)) f fw fa =
-    let out : side_of a e ≡ Out = ap (λ b. cond b Out Inward) (eq-eqb e.tail a k) in
+    let out : direction_to e w ≡ Out = ap (λ b. cond b Out Inward) (eq-eqb e.head w h) in
     (λ i. triple_of (out i) v e.label x) ∙ (λ i. record { src = (sym fa ∙ ap f (sym k)) i; label = e.label; dst = (sym fw ∙ ap f (sym h)) i })
 triple_at e w a x v other (inr (h, k)) f fw fa =
-    let inward : side_of a e ≡ Inward = ap (λ b. cond b Out Inward) (ne_eqb e.tail a (λ same. other (sym k ∙ same))) in
+    let inward : direction_to e w ≡ Inward = ap (λ b. cond b Out Inward) (ne_eqb e.head w (λ same. other (sym same ∙ h))) in
     (λ i. triple_of (inward i) v e.label x) ∙ (λ i. record { src = (sym fw ∙ ap f (sym k)) i; label = e.label; dst = (sym fa ∙ ap f (sym h)) i })
 
 module _ (q : PatternGraph) (t : QueryTree) (belongs : BelongsTo q t) where
@@ -137,7 +137,7 @@ module _ (g : Graph) (p : List (Option ℕ)) (e : PatternEdge) (w b : ℕ) (ends
       by (inl (h, k)) = ap (λ o. stands_between g e.label o (id_of p e.head)) (ap (id_of p) k ∙ none)
       by (inr (h, k)) = ap (λ o. stands_between g e.label (id_of p e.tail) o) (ap (id_of p) h ∙ none) ∙ none_between g e.label (id_of p e.tail)
 
-  firm : (x v : ℕ) → w ≢ b → id_of p w ≡ Some x → id_of p b ≡ Some v → has_triple g (triple_of (side_of b e) v e.label x) ≡ true → stands_where_given g p e ≡ true
+  firm : (x v : ℕ) → w ≢ b → id_of p w ≡ Some x → id_of p b ≡ Some v → has_triple g (triple_of (direction_to e w) v e.label x) ≡ true → stands_where_given g p e ≡ true
   firm x v other here there stands =
       (λ i. stands_between g e.label ((given ends i).0) ((given ends i).1))
       ∙ ap (has_triple g) (sym (triple_at e w b x v other ends f fw fb))
@@ -272,7 +272,7 @@ module _ (q : PatternGraph) (t : QueryTree) (d : StateRows) (g : Graph) (o : Sea
 
   -- ---- the others
 
-  module _ (some : 1 ≤ k) (v : ℕ) (side : Side) (label : List ℕ) (row : IsRowAt q t o k p v side label) where
+  module _ (some : 1 ≤ k) (v : ℕ) (direction : Direction) (label : List ℕ) (row : IsRowAt q t o k p v direction label) where
     abbrev a : ℕ
     a = nth_anchor o k
 
@@ -282,8 +282,8 @@ module _ (q : PatternGraph) (t : QueryTree) (d : StateRows) (g : Graph) (o : Sea
     tied : HangsFrom t a w ⊎ HangsFrom t w a
     tied = anchor_joined t o ready.order k some few
 
-    row_triple : (x : ℕ) → triple_of side v label x ≡ triple_of (side_of a edge) v edge.label x
-    row_triple x = λ i. triple_of (row.direction i) v (row.name i) x
+    row_triple : (x : ℕ) → triple_of direction v label x ≡ triple_of (direction_to edge w) v edge.label x
+    row_triple x = λ i. triple_of (row.leads i) v (row.name i) x
 
     pub anchor_stands : has_vertex g v ≡ true
     anchor_stands =
@@ -294,7 +294,7 @@ module _ (q : PatternGraph) (t : QueryTree) (d : StateRows) (g : Graph) (o : Sea
         fits_of zero h = absurd (let bad : false ≡ true = h in cc)
         fits_of (suc n) h = (and_parts _ _ h).0
 
-    pub given_next : (x : ℕ) → may_have q t g p w x ≡ true → has_triple g (triple_of side v label x) ≡ true → IsGiven q t g o (suc k) (with_id p w x)
+    pub given_next : (x : ℕ) → may_have q t g p w x ≡ true → has_triple g (triple_of direction v label x) ≡ true → IsGiven q t g o (suc k) (with_id p w x)
     given_next x may stands = given_with x may (λ u l e has. link u l e (other_end_of (edge_at q l.edge) u l.parent w (ends_at u l e) has))
       where
         -- where it has an id
@@ -302,7 +302,7 @@ module _ (q : PatternGraph) (t : QueryTree) (d : StateRows) (g : Graph) (o : Sea
         firmly u l e b ends at same =
             let number : edge_between t w a ≡ l.edge = numbered at in
             let there : id_of (with_id p w x) b ≡ Some v = ap (id_of (with_id p w x)) same ∙ id_there p w x a (λ equal. tie_apart q t ready.belongs w a tied (sym equal)) ∙ row.anchor in
-            let stands' : has_triple g (triple_of (side_of b (edge_at q l.edge)) v (edge_at q l.edge).label x) ≡ true = (λ i. has_triple g (triple_of (side_of (same i) (edge_at q (sym number i))) v (edge_at q (sym number i)).label x)) ∙ ap (has_triple g) (sym (row_triple x)) ∙ stands in
+            let stands' : has_triple g (triple_of (direction_to (edge_at q l.edge) w) v (edge_at q l.edge).label x) ≡ true = (λ i. has_triple g (triple_of (direction_to (edge_at q (sym number i)) w) v (edge_at q (sym number i)).label x)) ∙ ap (has_triple g) (sym (row_triple x)) ∙ stands in
             firm g (with_id p w x) (edge_at q l.edge) w b ends x v (λ equal. tie_apart q t ready.belongs w a tied (equal ∙ same)) (id_here p w x vertex_inside) there stands'
           where
             numbered : ((u ≡ w) × (l.parent ≡ b)) ⊎ ((u ≡ b) × (l.parent ≡ w)) → edge_between t w a ≡ l.edge
@@ -329,7 +329,7 @@ module _ (q : PatternGraph) (t : QueryTree) (d : StateRows) (g : Graph) (o : Sea
     -- ---- none is lost
 
     -- an embedding's id is a candidate
-    pub member_in_row : (m : List ℕ) → In (members_from q g p) m → has_triple g (triple_of side v label (slice_index m w)) ≡ true
+    pub member_in_row : (m : List ℕ) → In (members_from q g p) m → has_triple g (triple_of direction v label (slice_index m w)) ≡ true
     member_in_row m i =
         let r = member q g p m i in
         let number = tie_number q t ready.belongs w a tied in
@@ -339,10 +339,10 @@ module _ (q : PatternGraph) (t : QueryTree) (d : StateRows) (g : Graph) (o : Sea
     pub anchor_hangs : HangsFrom t a w ⊎ HangsFrom t w a
     anchor_hangs = tied
 
-    pub row_split : (rows : List Triple) → IsPermutation rows (whole_row side g v) → IsPermutation (members_over q g p w (ends_of side label rows)) (members_from q g p)
+    pub row_split : (rows : List Triple) → IsPermutation rows (whole_row direction g v) → IsPermutation (members_over q g p w (ends_of direction label rows)) (members_from q g p)
     row_split rows all =
-        members_split q g p w vertex_inside vertex_free (ends_of side label rows) (ends_distinct g v side label rows all ready.graph)
-        (λ m i. ends_have g v side label rows all (slice_index m w) (member_in_row m i))
+        members_split q g p w vertex_inside vertex_free (ends_of direction label rows) (ends_distinct g v direction label rows all ready.graph)
+        (λ m i. ends_have g v direction label rows all (slice_index m w) (member_in_row m i))
 
-    pub row_start : (rows : List Triple) → IsPermutation rows (whole_row side g v) → (old : List (List ℕ)) → GrewUpTo old old (members_over q g p w (ends_of side label rows)) (members_from q g p)
-    row_start rows all old = grew_none old (members_over q g p w (ends_of side label rows)) (members_from q g p) (row_split rows all)
+    pub row_start : (rows : List Triple) → IsPermutation rows (whole_row direction g v) → (old : List (List ℕ)) → GrewUpTo old old (members_over q g p w (ends_of direction label rows)) (members_from q g p)
+    row_start rows all old = grew_none old (members_over q g p w (ends_of direction label rows)) (members_from q g p) (row_split rows all)

@@ -28,14 +28,13 @@ use Rattle.match_order.specs.Whole.{vertices}
 use Rattle.match_order.proofs.CallerLemmas.{HangsFrom, vertex_within, one_place, anchor_before, anchor_joined}
 use Rattle.query_tree.specs.Depth.{depth}
 use Rattle.query_tree.proofs.CallerLemmas.{is_child_of, depth-below, depth-small}
-use Rattle.tree_search.specs.Ends.{triple_of, side_of}
+use Rattle.dcg_transition.specs.Ends.{triple_of, direction_to}
+use Rattle.dcg_transition.specs.declared.direction.Direction.TheVariants.{Out, In as Inward}
 use Rattle.tree_search.specs.Given.{IsReady, IsGiven, IsRowAt, nth_vertex, nth_anchor, may_have, edge_between}
 use Rattle.tree_search.specs.Members.{members_from, ids_of}
 use Rattle.tree_search.specs.Spent.{MeetsNoDeadEnd}
-use Rattle.tree_search.specs.declared.row.Side.TheVariants.{Out, In as Inward}
 use Rattle.tree_search.proofs.MemberLemmas.{members_with}
 use Rattle.tree_search.proofs.EndLemmas.{in_all}
-use Rattle.tree_search.proofs.ChosenLemmas.{ends_of_link}
 use Rattle.tree_search.proofs.GivenLemmas.{vertex_inside, vertex_free, given_next, number_down}
 use Rattle.tree_search.proofs.WholeLemmas.{one_member}
 
@@ -94,22 +93,20 @@ module _ (q : PatternGraph) (t : QueryTree) (g : Graph) (w : ℕ) (l : TreeLink)
       by false b c at same = absurd (let clash : None ≡ Some r = same in cc)
 
   -- it stands in the row of the upper end
-  joint_stands : (a : ℕ) → l.parent ≡ a → (w ≢ a) → ((e.head ≡ w) × (e.tail ≡ a)) ⊎ ((e.head ≡ a) × (e.tail ≡ w)) → (r : Joint) → In r ((joined q t g).joints w) → has_triple g (triple_of (side_of a e) r.above e.label r.below) ≡ true
-  joint_stands a parent other ends r i =
+  joint_stands : (r : Joint) → In r ((joined q t g).joints w) → has_triple g (triple_of (direction_to e w) r.above e.label r.below) ≡ true
+  joint_stands r i =
       let s = from_filter_map (joint_of q t g w) g.triples r i in
       let is = joint_is s.0 r s.2 in
-      ap (has_triple g) (by ends is.0 is.1) ∙ has_in g s.0 s.1
+      ap (has_triple g) (by is.0 is.1) ∙ has_in g s.0 s.1
     where
-      by : {s : Triple} → ((e.head ≡ w) × (e.tail ≡ a)) ⊎ ((e.head ≡ a) × (e.tail ≡ w)) → s.label ≡ e.label
+      by : {s : Triple} → s.label ≡ e.label
           → ((e.head ≡ w) × (s.src ≡ r.above) × (s.dst ≡ r.below)) ⊎ ((e.head ≡ w → ⊥) × (s.dst ≡ r.above) × (s.src ≡ r.below))
-          → triple_of (side_of a e) r.above e.label r.below ≡ s
-      by {s} (inl (h, k)) label (inl (at, above, below)) =
-          let out : side_of a e ≡ Out = ap (λ b. cond b Out Inward) (eq-eqb e.tail a k) in
+          → triple_of (direction_to e w) r.above e.label r.below ≡ s
+      by {s} label (inl (at, above, below)) =
+          let out : direction_to e w ≡ Out = ap (λ b. cond b Out Inward) (eq-eqb e.head w at) in
           (λ n. triple_of (out n) r.above e.label r.below) ∙ (λ n. record { src = sym above n; label = sym label n; dst = sym below n })
-      by (inl (h, k)) label (inr (not_at, above, below)) = absurd (not_at h)
-      by (inr (h, k)) label (inl (at, above, below)) = absurd (other (sym at ∙ h))
-      by {s} (inr (h, k)) label (inr (not_at, above, below)) =
-          let inward : side_of a e ≡ Inward = ap (λ b. cond b Out Inward) (ne_eqb e.tail a (λ same. other (sym k ∙ same))) in
+      by {s} label (inr (not_at, above, below)) =
+          let inward : direction_to e w ≡ Inward = ap (λ b. cond b Out Inward) (ne_eqb e.head w not_at) in
           (λ n. triple_of (inward n) r.above e.label r.below) ∙ (λ n. record { src = sym below n; label = sym label n; dst = sym above n })
 
 module _ (q : PatternGraph) (t : QueryTree) (d : StateRows) (g : Graph) (o : SearchOrder) (ready : IsReady q t d g o) (start : o.start ≡ t.root) where
@@ -172,7 +169,7 @@ module _ (q : PatternGraph) (t : QueryTree) (d : StateRows) (g : Graph) (o : Sea
         by (suc m) h = (m, refl)
 
     -- where the anchor's pair is explicit, one of its joints leads on
-    leads_on : (v : ℕ) → is_explicit (joined q t g) a v ≡ true → (y : ℕ) × (is_explicit (joined q t g) w y ≡ true) × (has_triple g (triple_of (side_of a (edge_at q above.0.edge)) v (edge_at q above.0.edge).label y) ≡ true)
+    leads_on : (v : ℕ) → is_explicit (joined q t g) a v ≡ true → (y : ℕ) × (is_explicit (joined q t g) w y ≡ true) × (has_triple g (triple_of (direction_to (edge_at q above.0.edge) w) v (edge_at q above.0.edge).label y) ≡ true)
     leads_on v is =
         let two = and_parts (reaches (joined q t g) a v) (extends (joined q t g) a v) is in
         let far : extends_within (suc n.0) (joined q t g) a v ≡ true = subst (λ m. extends_within m (joined q t g) a v ≡ true) n.1 two.1 in
@@ -187,7 +184,7 @@ module _ (q : PatternGraph) (t : QueryTree) (d : StateRows) (g : Graph) (o : Sea
         let reached = reaches_below (joined q t g) (depth t) deep a v w above.0 r.0 inside above.1 above.2 r.1 top two.0 fit in (
           r.0.below,
           and_from (reaches (joined q t g) w r.0.below) (extends (joined q t g) w r.0.below) reached on,
-          (λ i. has_triple g (triple_of (side_of a (edge_at q above.0.edge)) (sym top i) (edge_at q above.0.edge).label r.0.below)) ∙ joint_stands q t g w above.0 above.1 a above.2 apart (ends_by above.2) r.0 r.1,
+          (λ i. has_triple g (triple_of (direction_to (edge_at q above.0.edge) w) (sym top i) (edge_at q above.0.edge).label r.0.below)) ∙ joint_stands q t g w above.0 above.1 r.0 r.1,
         )
       where
         numbered : (b m x : ℕ) → b ≤ x → x < b + m → Has (range_with_len b m) x
@@ -198,12 +195,8 @@ module _ (q : PatternGraph) (t : QueryTree) (d : StateRows) (g : Graph) (o : Sea
             by (inl same) rest = inl same
             by (inr other) rest = inr (rest (omega arith) (omega arith))
 
-        ends_by : above.0.parent ≡ a → (((edge_at q above.0.edge).head ≡ w) × ((edge_at q above.0.edge).tail ≡ a)) ⊎ (((edge_at q above.0.edge).head ≡ a) × ((edge_at q above.0.edge).tail ≡ w))
-        ends_by same = subst (λ b. (((edge_at q above.0.edge).head ≡ w) × ((edge_at q above.0.edge).tail ≡ b)) ⊎ (((edge_at q above.0.edge).head ≡ b) × ((edge_at q above.0.edge).tail ≡ w))) same
-            (ends_of_link (edge_at q above.0.edge) w above.0.parent (ready.belongs.links w above.0 above.1).between)
-
-    pub row_of_anchor : (v : ℕ) → id_of p a ≡ Some v → IsRowAt q t o k p v (side_of a (edge_at q (edge_between t w a))) (edge_at q (edge_between t w a)).label
-    row_of_anchor v has = record { anchor = has; direction = refl; name = refl }
+    pub row_of_anchor : (v : ℕ) → id_of p a ≡ Some v → IsRowAt q t o k p v (direction_to (edge_at q (edge_between t w a)) w) (edge_at q (edge_between t w a)).label
+    row_of_anchor v has = record { anchor = has; leads = refl; name = refl }
 
     pub next_given : (y : ℕ) × IsGiven q t g o (suc k) (with_id p w y)
     next_given =
@@ -212,7 +205,7 @@ module _ (q : PatternGraph) (t : QueryTree) (d : StateRows) (g : Graph) (o : Sea
         let has : id_of p a ≡ Some v.0 = ap (id_of p) (sym b.2) ∙ v.1 in
         let y = leads_on v.0 (known.explicit a v.0 has) in
         let number = number_down q t ready.belongs w a above.0 above.1 above.2 in
-        let stands : has_triple g (triple_of (side_of a (edge_at q (edge_between t w a))) v.0 (edge_at q (edge_between t w a)).label y.0) ≡ true = (λ i. has_triple g (triple_of (side_of a (edge_at q (number i))) v.0 (edge_at q (number i)).label y.0)) ∙ y.2 in
+        let stands : has_triple g (triple_of (direction_to (edge_at q (edge_between t w a)) w) v.0 (edge_at q (edge_between t w a)).label y.0) ≡ true = (λ i. has_triple g (triple_of (direction_to (edge_at q (number i)) w) v.0 (edge_at q (number i)).label y.0)) ∙ y.2 in
         (y.0, given_next q t d g o ready k few p known some v.0 _ _ (row_of_anchor v.0 has) y.0 (explicit_may_have q t g live p w y.0 y.1) stands)
 
   -- ---- an embedding goes on

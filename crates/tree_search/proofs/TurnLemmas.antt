@@ -26,10 +26,10 @@ use Rattle.flux_laws.proofs.SetsLemmas.{vertex_total}
 use Rattle.label_graph.specs.Sorted.{In}
 use Rattle.label_graph.proofs.SortedLemmas.{in_any, mapped_in, in_mapped, in_permutation}
 use Rattle.match_order.specs.Whole.{vertices}
-use Rattle.tree_search.specs.Ends.{whole_row, triple_of, ends_of}
+use Rattle.dcg_transition.specs.Ends.{whole_row, triple_of, ends_of}
+use Rattle.dcg_transition.specs.declared.direction.Direction.{Direction}
 use Rattle.tree_search.specs.Given.{IsReady, IsGiven, IsRowAt, nth_vertex, may_have}
 use Rattle.tree_search.specs.Members.{members_from, members_over, GrewUpTo, GrewByAll, GrewBySome}
-use Rattle.tree_search.specs.declared.row.Side.{Side}
 use Rattle.tree_search.proofs.GrowthLemmas.{grew_none, grew_all, grew_turn, grew_skip, grew_stop}
 use Rattle.tree_search.proofs.MemberLemmas.{members_split}
 use Rattle.tree_search.proofs.EmbeddingLemmas.{id_fits, vertex_of_fits}
@@ -89,16 +89,16 @@ module _ (q : PatternGraph) (t : QueryTree) (d : StateRows) (g : Graph) (o : Sea
       subst (λ n. IsGiven q t g o n put) (ap suc none)
       (subst (λ l. IsGiven q t g o (suc k) l) (placed x put is) (given_first q t d g o ready k few p known none x (passed x told may passes)))
 
-  module _ (some : 1 ≤ k) (v : ℕ) (side : Side) (label : List ℕ) (row : IsRowAt q t o k p v side label) where
-    pub turn_given : (x : ℕ) (xs rest : List ℕ) → xs ≡ x ∷ rest → ((y : ℕ) → In xs y → has_triple g (triple_of side v label y) ≡ true)
+  module _ (some : 1 ≤ k) (v : ℕ) (direction : Direction) (label : List ℕ) (row : IsRowAt q t o k p v direction label) where
+    pub turn_given : (x : ℕ) (xs rest : List ℕ) → xs ≡ x ∷ rest → ((y : ℕ) → In xs y → has_triple g (triple_of direction v label y) ≡ true)
         → (told : Bool) → told ≡ may_have q t g now w x → told ≡ true → (put : List (Option ℕ)) → put ≡ slice_set now w (Some x) → IsGiven q t g o (k + 1) put
     turn_given x xs rest ends stand told may passes put is =
         let stands = stand x (subst (λ l. In l x) (sym ends) (inl refl)) in
         subst (λ n. IsGiven q t g o n put) (omega arith)
-        (subst (λ l. IsGiven q t g o (suc k) l) (placed x put is) (given_next q t d g o ready k few p known some v side label row x (passed x told may passes) stands))
+        (subst (λ l. IsGiven q t g o (suc k) l) (placed x put is) (given_next q t d g o ready k few p known some v direction label row x (passed x told may passes) stands))
 
-    pub turns_start : (rows : List Triple) → IsPermutation rows (whole_row side g v) → (old : List (List ℕ)) → GrewUpTo old old (members_over q g p w (ends_of side label rows)) (members_from q g p)
-    turns_start rows all old = subst (λ u. GrewUpTo old old (members_over q g p u (ends_of side label rows)) (members_from q g p)) (sym at) (row_start q t d g o ready k few p known some v side label row rows all old)
+    pub turns_start : (rows : List Triple) → IsPermutation rows (whole_row direction g v) → (old : List (List ℕ)) → GrewUpTo old old (members_over q g p w (ends_of direction label rows)) (members_from q g p)
+    turns_start rows all old = subst (λ u. GrewUpTo old old (members_over q g p u (ends_of direction label rows)) (members_from q g p)) (sym at) (row_start q t d g o ready k few p known some v direction label row rows all old)
 
 -- the candidates that are left are candidates
 pub others_stand : (test : ℕ → Bool) (x : ℕ) (xs rest : List ℕ) → xs ≡ x ∷ rest → ((y : ℕ) → In xs y → test y ≡ true) → (y : ℕ) → In rest y → test y ≡ true

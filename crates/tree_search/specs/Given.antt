@@ -9,8 +9,8 @@ use Rattle.flux_model.specs.Order.{SearchOrder}
 use Rattle.flux_model.specs.Partial.{id_of, joins, is_free, stands_where_given, keeps_non_tree, keeps_mode_where_given}
 use Rattle.flux_model.specs.declared.tree.TreeLink.{TreeLink}
 use Rattle.match_order.specs.Whole.{vertices, anchors, IsOrderOf}
-use Rattle.tree_search.specs.declared.row.Side.{Side}
-use Rattle.tree_search.specs.Ends.{side_of}
+use Rattle.dcg_transition.specs.declared.direction.Direction.{Direction}
+use Rattle.dcg_transition.specs.Ends.{direction_to}
 
 -- what a search is about
 pub record IsReady (q : PatternGraph) (t : QueryTree) (d : StateRows) (g : Graph) (o : SearchOrder) : Type 0 where
@@ -51,8 +51,8 @@ edge_of (Some l) = l.edge
 abbrev pub edge_between : QueryTree → ℕ → ℕ → ℕ
 edge_between t w a = if is_child t a w then edge_of (link_at t w) else edge_of (link_at t a)
 
--- the row of the anchor's id in the direction of the edge
-pub record IsRowAt (q : PatternGraph) (t : QueryTree) (o : SearchOrder) (k : ℕ) (p : List (Option ℕ)) (vertex : ℕ) (side : Side) (label : List ℕ) : Type 0 where
+-- the row of the anchor's id in the direction in which the edge leads to the vertex
+pub record IsRowAt (q : PatternGraph) (t : QueryTree) (o : SearchOrder) (k : ℕ) (p : List (Option ℕ)) (vertex : ℕ) (direction : Direction) (label : List ℕ) : Type 0 where
   pub anchor : id_of p (nth_anchor o k) ≡ Some vertex
-  pub direction : side ≡ side_of (nth_anchor o k) (edge_at q (edge_between t (nth_vertex o k) (nth_anchor o k)))
+  pub leads : direction ≡ direction_to (edge_at q (edge_between t (nth_vertex o k) (nth_anchor o k))) (nth_vertex o k)
   pub name : label ≡ (edge_at q (edge_between t (nth_vertex o k) (nth_anchor o k))).label

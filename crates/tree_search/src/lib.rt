@@ -5,14 +5,12 @@
 //! and where the edges that the tree leaves out and the mode allow it:
 //!
 //! - `found`: what takes the embeddings, one after another.
-//! - `row`: the candidates of a vertex, as a row of the graph has them.
 //! - `search`: `all`, the search.
 //!
 //! Only the order and what takes the embeddings want memory.
 #![tactic(auto)]
 
 mod found;
-mod row;
 mod search;
 #[cfg(test)]
 mod tests;

@@ -10,13 +10,12 @@ ghost use Rattle.flux_model.specs.Tree.{BelongsTo, edge_at, link_at, is_child};
 ghost use Rattle.flux_model.specs.Order.{are_neighbours};
 ghost use Rattle.match_order.specs.Whole.{vertices, IsOrderOf};
 ghost use Rattle.tree_search.specs.Given.{IsReady, IsGiven, IsRowAt, may_have, edge_of, edge_between};
-ghost use Rattle.tree_search.specs.Ends.{side_of};
 ghost use Rattle.tree_search.specs.Spent.{MeetsNoDeadEnd, test_cost, members_cost};
 ghost use Rattle.tree_search.specs.Members.{members_from, ids_of, GrewByAll, GrewBySome};
 
 use crate::found::Found;
-use crate::row::{Row, Side};
 use dcg_store::Dcg;
+use dcg_transition::{Direction, GraphRow};
 use flux_model::{Ledger, Partial, Pattern, PatternEdge, State, Steps};
 use label_graph::{HoldGraph, ReadGraph};
 use match_order::{SearchOrder, order};
@@ -132,31 +131,21 @@ fn extend<G: ReadGraph<L>, F: Found, L: Ledger>(
     Ok(())
 }
 
-/// The row of the id of the anchor at place `k`, in the direction of the tree edge between the vertex and its anchor.
-fn row_at<'a, G: HoldGraph>(search: &'a Search<'_, G>, k: usize, partial: &Partial) -> Row<'a>
+/// The row of the id of the anchor at place `k`, in the direction in which the tree edge leads to the vertex.
+fn row_at<'a, G: HoldGraph>(search: &'a Search<'_, G>, k: usize, partial: &Partial) -> GraphRow<'a>
     requires ready { IsReady search.now.pattern.now search.now.tree.now search.now.dcg.now (G.graph search.now.graph.now) search.now.order }
     requires some { 1 ≤ k }
     requires few { k < length (vertices search.now.order) }
     requires given { IsGiven search.now.pattern.now search.now.tree.now (G.graph search.now.graph.now) search.now.order k partial.now }
-    ensures { IsRowAt search.now.pattern.now search.now.tree.now search.now.order k partial.now result.vertex result.side result.label.now }
+    ensures { IsRowAt search.now.pattern.now search.now.tree.now search.now.order k partial.now result.vertex result.direction result.label.now }
 {
+    let w = search.order.vertex(k);
     let anchor = search.order.anchor(k);
-    let edge = edge_between(search.pattern, search.tree, search.order.vertex(k), anchor);
-    Row {
+    let edge = edge_between(search.pattern, search.tree, w, anchor);
+    GraphRow {
         vertex: partial.get(anchor).unwrap(),
-        side: side_of(anchor, edge),
+        direction: Direction::to(edge, w),
         label: &edge.label,
-    }
-}
-
-/// The row of a vertex's id in the direction of an edge of the vertex.
-fn side_of(vertex: usize, edge: &PatternEdge) -> Side
-    ensures { result ≡ side_of vertex edge.now }
-{
-    if edge.tail == vertex {
-        Side::Out
-    } else {
-        Side::In
     }
 }
 

@@ -1,9 +1,8 @@
 use Rattle.std.proofs.Common.{rules, ◌+◌, ◌<◌, ◌≤◌, length, refl, ◌∙◌, arith}
 use Rattle.std.proofs.lemmas.Result.{on_ok_weaker, on_err_weaker}
 use Rattle.flux_model.specs.Graph.{has_triple}
-use Rattle.label_graph.specs.declared.spot.Spot.{Spot}
 use Rattle.match_order.specs.Whole.{vertices}
-use Rattle.tree_search.specs.Ends.{row_from, triple_of, ends_of}
+use Rattle.dcg_transition.specs.Ends.{row_from, triple_of, ends_from}
 use Rattle.tree_search.specs.Members.{members_from, ids_of}
 use Rattle.tree_search.proofs.GrowthLemmas.{grew_one, grew_by_none, any_err}
 use Rattle.tree_search.proofs.EndLemmas.{end_stands}
@@ -37,21 +36,21 @@ pub first-at-requires : goal.first-at-requires
 first-at-requires g t c =
     let s = c.args.search.now in
     let r = c.row_at-row.result in
-    anchor_stands s.pattern.now s.tree.now s.dcg.now (g.G.HoldGraph.graph s.graph.now) s.order c.requires.ready c.args.k (omega (arith, c.requires.few, c.if-k-len.false, c.len.ensures)) c.args.partial.now c.requires.given c.requires.some r.vertex r.side r.label.now c.row_at-row.ensures
+    anchor_stands s.pattern.now s.tree.now s.dcg.now (g.G.HoldGraph.graph s.graph.now) s.order c.requires.ready c.args.k (omega (arith, c.requires.few, c.if-k-len.false, c.len.ensures)) c.args.partial.now c.requires.given c.requires.some r.vertex r.direction r.label.now c.row_at-row.ensures
 
 pub loop-x-init : goal.loop-x-init
 loop-x-init g t c =
     let s = c.args.search.now in
     let r = c.row_at-row.result in
     let graph = g.G.HoldGraph.graph s.graph.now in
-    let rows = row_from r.side (g.G.HoldGraph.outs_from s.graph.now) (g.G.HoldGraph.ins_from s.graph.now) r.vertex c.first-at.result in
+    let rows = row_from (g.G.HoldGraph.outs_from s.graph.now) (g.G.HoldGraph.ins_from s.graph.now) r c.first-at.result in
     record {
       place = c.first-at.ensures.place;
       partial = refl;
-      stand = end_stands graph r.vertex r.side r.label.now rows c.first-at.ensures.all;
-      found = turns_start s.pattern.now s.tree.now s.dcg.now graph s.order c.requires.ready c.args.k (omega (arith, c.requires.few, c.if-k-len.false, c.len.ensures)) c.args.partial.now c.requires.given c.vertex-w.result c.vertex-w.ensures c.args.partial.now refl c.requires.some r.vertex r.side r.label.now c.row_at-row.ensures rows c.first-at.ensures.all (g.F.Found.list c.args.found.now);
+      stand = end_stands graph r.vertex r.direction r.label.now rows c.first-at.ensures.all;
+      found = turns_start s.pattern.now s.tree.now s.dcg.now graph s.order c.requires.ready c.args.k (omega (arith, c.requires.few, c.if-k-len.false, c.len.ensures)) c.args.partial.now c.requires.given c.vertex-w.result c.vertex-w.ensures c.args.partial.now refl c.requires.some r.vertex r.direction r.label.now c.row_at-row.ensures rows c.first-at.ensures.all (g.F.Found.list c.args.found.now);
       steps = λ live start.
-          (let paid = start_paid s.pattern.now s.tree.now s.dcg.now graph s.order c.requires.ready start live c.args.k c.requires.some (omega (arith, c.requires.few, c.if-k-len.false, c.len.ensures)) c.args.partial.now c.requires.given c.vertex-w.result c.vertex-w.ensures r.vertex r.side r.label.now c.row_at-row.ensures rows c.first-at.ensures.all in
+          (let paid = start_paid s.pattern.now s.tree.now s.dcg.now graph s.order c.requires.ready start live c.args.k c.requires.some (omega (arith, c.requires.few, c.if-k-len.false, c.len.ensures)) c.args.partial.now c.requires.given c.vertex-w.result c.vertex-w.ensures r.vertex r.direction r.label.now c.row_at-row.ensures rows c.first-at.ensures.all in
           omega (arith, paid));
     }
 
@@ -59,7 +58,7 @@ pub next-requires-clause-stands : goal.next-requires-clause-stands
 next-requires-clause-stands g t c =
     let s = c.args.search.now in
     let r = c.row_at-row.result in
-    anchor_stands s.pattern.now s.tree.now s.dcg.now (g.G.HoldGraph.graph s.graph.now) s.order c.requires.ready c.args.k (omega (arith, c.requires.few, c.if-k-len.false, c.len.ensures)) c.args.partial.now c.requires.given c.requires.some r.vertex r.side r.label.now c.row_at-row.ensures
+    anchor_stands s.pattern.now s.tree.now s.dcg.now (g.G.HoldGraph.graph s.graph.now) s.order c.requires.ready c.args.k (omega (arith, c.requires.few, c.if-k-len.false, c.len.ensures)) c.args.partial.now c.requires.given c.requires.some r.vertex r.direction r.label.now c.row_at-row.ensures
 
 pub may_have-requires-clause-open : goal.may_have-requires-clause-open
 may_have-requires-clause-open g t c =
@@ -71,9 +70,9 @@ extend-requires g t c κs within =
     let s = c.args.search.now in
     let r = c.row_at-row.result in
     let graph = g.G.HoldGraph.graph s.graph.now in
-    let rows = λ (at : Spot). row_from r.side (g.G.HoldGraph.outs_from s.graph.now) (g.G.HoldGraph.ins_from s.graph.now) r.vertex at in
-    let ends = λ (at : Spot). ends_of r.side r.label.now (rows at) in
-    let given = turn_given s.pattern.now s.tree.now s.dcg.now graph s.order c.requires.ready c.args.k (omega (arith, c.requires.few, c.if-k-len.false, c.len.ensures)) c.args.partial.now c.requires.given c.vertex-w.result c.vertex-w.ensures c.loop-x.partial c.loop-x.invariant.partial c.requires.some r.vertex r.side r.label.now c.row_at-row.ensures c.in-Some.x (ends c.loop-x.at) (ends c.in-Some.next) c.in-Some.ensures.ends c.loop-x.invariant.stand c.may_have.result c.may_have.ensures.value c.if-may_have.true c.put.new.self c.put.ensures in
+    let rows = row_from (g.G.HoldGraph.outs_from s.graph.now) (g.G.HoldGraph.ins_from s.graph.now) r in
+    let ends = ends_from (g.G.HoldGraph.outs_from s.graph.now) (g.G.HoldGraph.ins_from s.graph.now) r in
+    let given = turn_given s.pattern.now s.tree.now s.dcg.now graph s.order c.requires.ready c.args.k (omega (arith, c.requires.few, c.if-k-len.false, c.len.ensures)) c.args.partial.now c.requires.given c.vertex-w.result c.vertex-w.ensures c.loop-x.partial c.loop-x.invariant.partial c.requires.some r.vertex r.direction r.label.now c.row_at-row.ensures c.in-Some.x (ends c.loop-x.at) (ends c.in-Some.next) c.in-Some.ensures.ends c.loop-x.invariant.stand c.may_have.result c.may_have.ensures.value c.if-may_have.true c.put.new.self c.put.ensures in
     let few : c.args.k + 1 ≤ length (vertices s.order) = omega (arith, c.requires.few, c.if-k-len.false, c.len.ensures) in
     (search rules, (within.0, (within.1.0, (within.1.1, (c.requires.ready, (omega arith, (few, given)))))))
 
@@ -83,8 +82,8 @@ returns-in_err-extend-clause-some g t c =
     let r = c.row_at-row.result in
     let graph = g.G.HoldGraph.graph s.graph.now in
     let list = g.F.Found.list in
-    let rows = λ (at : Spot). row_from r.side (g.G.HoldGraph.outs_from s.graph.now) (g.G.HoldGraph.ins_from s.graph.now) r.vertex at in
-    let ends = λ (at : Spot). ends_of r.side r.label.now (rows at) in
+    let rows = row_from (g.G.HoldGraph.outs_from s.graph.now) (g.G.HoldGraph.ins_from s.graph.now) r in
+    let ends = ends_from (g.G.HoldGraph.outs_from s.graph.now) (g.G.HoldGraph.ins_from s.graph.now) r in
     any_err c.from_residual.result (turn_stop s.pattern.now s.tree.now s.dcg.now graph s.order c.requires.ready c.args.k (omega (arith, c.requires.few, c.if-k-len.false, c.len.ensures)) c.args.partial.now c.requires.given c.vertex-w.result c.vertex-w.ensures c.loop-x.partial c.loop-x.invariant.partial c.in-Some.x (ends c.loop-x.at) (ends c.in-Some.next) c.in-Some.ensures.ends (list c.args.found.now) (list c.loop-x.found) (members_from s.pattern.now graph c.args.partial.now) c.loop-x.invariant.found c.put.new.self c.put.ensures (list c.extend.new.found) c.in_err-extend.ensures.some)
 
 pub loop-x-preserved-then-may_have : goal.loop-x-preserved-then-may_have
@@ -93,13 +92,13 @@ loop-x-preserved-then-may_have g t c =
     let r = c.row_at-row.result in
     let graph = g.G.HoldGraph.graph s.graph.now in
     let list = g.F.Found.list in
-    let rows = λ (at : Spot). row_from r.side (g.G.HoldGraph.outs_from s.graph.now) (g.G.HoldGraph.ins_from s.graph.now) r.vertex at in
-    let ends = λ (at : Spot). ends_of r.side r.label.now (rows at) in
+    let rows = row_from (g.G.HoldGraph.outs_from s.graph.now) (g.G.HoldGraph.ins_from s.graph.now) r in
+    let ends = ends_from (g.G.HoldGraph.outs_from s.graph.now) (g.G.HoldGraph.ins_from s.graph.now) r in
     let few : c.args.k < length (vertices s.order) = omega (arith, c.requires.few, c.if-k-len.false, c.len.ensures) in
     record {
       place = c.in-Some.ensures.next;
       partial = turn_back s.pattern.now s.tree.now s.dcg.now graph s.order c.requires.ready c.args.k few c.args.partial.now c.requires.given c.vertex-w.result c.vertex-w.ensures c.loop-x.partial c.loop-x.invariant.partial c.in-Some.x c.put.new.self c.extend.new.partial c.clear.new.self c.put.ensures c.in_ok-extend.ensures.partial c.clear.ensures;
-      stand = others_stand (λ y. has_triple graph (triple_of r.side r.vertex r.label.now y)) c.in-Some.x (ends c.loop-x.at) (ends c.in-Some.next) c.in-Some.ensures.ends c.loop-x.invariant.stand;
+      stand = others_stand (λ y. has_triple graph (triple_of r.direction r.vertex r.label.now y)) c.in-Some.x (ends c.loop-x.at) (ends c.in-Some.next) c.in-Some.ensures.ends c.loop-x.invariant.stand;
       found = turn_found s.pattern.now s.tree.now s.dcg.now graph s.order c.requires.ready c.args.k few c.args.partial.now c.requires.given c.vertex-w.result c.vertex-w.ensures c.loop-x.partial c.loop-x.invariant.partial c.in-Some.x (ends c.loop-x.at) (ends c.in-Some.next) c.in-Some.ensures.ends (list c.args.found.now) (list c.loop-x.found) (members_from s.pattern.now graph c.args.partial.now) c.loop-x.invariant.found c.put.new.self c.put.ensures (list c.extend.new.found) c.in_ok-extend.ensures.found;
       steps = λ live start.
           turn_steps s.pattern.now s.tree.now graph c.args.partial.now c.vertex-w.result c.loop-x.partial c.loop-x.invariant.partial c.in-Some.x (ends c.loop-x.at) (ends c.in-Some.next) c.in-Some.ensures.ends (cost_from s.pattern.now s.tree.now graph s.order (c.args.k + 1)) c.put.new.self c.put.ensures (length (rows c.in-Some.next)) (length (rows c.loop-x.at)) c.in-Some.ensures.less c.loop-x.steps c.next.new.steps c.may_have.new.steps c.extend.new.steps c.args.steps.now (members_cost s.pattern.now s.tree.now graph s.order c.args.k c.args.partial.now) c.in-Some.ensures.steps c.may_have.ensures.steps (c.in_ok-extend.ensures.steps live start) (c.loop-x.invariant.steps live start);
@@ -111,13 +110,13 @@ loop-x-preserved g t c =
     let r = c.row_at-row.result in
     let graph = g.G.HoldGraph.graph s.graph.now in
     let list = g.F.Found.list in
-    let rows = λ (at : Spot). row_from r.side (g.G.HoldGraph.outs_from s.graph.now) (g.G.HoldGraph.ins_from s.graph.now) r.vertex at in
-    let ends = λ (at : Spot). ends_of r.side r.label.now (rows at) in
+    let rows = row_from (g.G.HoldGraph.outs_from s.graph.now) (g.G.HoldGraph.ins_from s.graph.now) r in
+    let ends = ends_from (g.G.HoldGraph.outs_from s.graph.now) (g.G.HoldGraph.ins_from s.graph.now) r in
     let few : c.args.k < length (vertices s.order) = omega (arith, c.requires.few, c.if-k-len.false, c.len.ensures) in
     record {
       place = c.in-Some.ensures.next;
       partial = c.loop-x.invariant.partial;
-      stand = others_stand (λ y. has_triple graph (triple_of r.side r.vertex r.label.now y)) c.in-Some.x (ends c.loop-x.at) (ends c.in-Some.next) c.in-Some.ensures.ends c.loop-x.invariant.stand;
+      stand = others_stand (λ y. has_triple graph (triple_of r.direction r.vertex r.label.now y)) c.in-Some.x (ends c.loop-x.at) (ends c.in-Some.next) c.in-Some.ensures.ends c.loop-x.invariant.stand;
       found = turn_skip s.pattern.now s.tree.now s.dcg.now graph s.order c.requires.ready c.args.k few c.args.partial.now c.requires.given c.vertex-w.result c.vertex-w.ensures c.loop-x.partial c.loop-x.invariant.partial c.in-Some.x (ends c.loop-x.at) (ends c.in-Some.next) c.in-Some.ensures.ends (list c.args.found.now) (list c.loop-x.found) (members_from s.pattern.now graph c.args.partial.now) c.loop-x.invariant.found c.may_have.result c.may_have.ensures.value c.if-may_have.false;
       steps = λ live start.
           skip_steps s.pattern.now s.tree.now graph c.args.partial.now c.vertex-w.result c.loop-x.partial c.loop-x.invariant.partial c.in-Some.x (ends c.loop-x.at) (ends c.in-Some.next) c.in-Some.ensures.ends (cost_from s.pattern.now s.tree.now graph s.order (c.args.k + 1)) (length (rows c.in-Some.next)) (length (rows c.loop-x.at)) c.in-Some.ensures.less c.loop-x.steps c.next.new.steps c.may_have.new.steps c.args.steps.now (members_cost s.pattern.now s.tree.now graph s.order c.args.k c.args.partial.now) c.in-Some.ensures.steps c.may_have.ensures.steps (c.loop-x.invariant.steps live start);
@@ -127,7 +126,7 @@ pub returns-clause-steps : goal.returns-clause-steps
 returns-clause-steps g t c =
     let s = c.args.search.now in
     let r = c.row_at-row.result in
-    let rows = λ (at : Spot). row_from r.side (g.G.HoldGraph.outs_from s.graph.now) (g.G.HoldGraph.ins_from s.graph.now) r.vertex at in
+    let rows = row_from (g.G.HoldGraph.outs_from s.graph.now) (g.G.HoldGraph.ins_from s.graph.now) r in
     λ live start.
     (let ended = c.in_default.ensures.steps in
     omega (arith, ended, c.loop-x.invariant.steps live start, end_paid (length s.pattern.now.edges) (length (rows c.loop-x.at))))

@@ -3,7 +3,7 @@ use Rattle.std.specs.List.{sum_by}
 use Rattle.flux_model.specs.Graph.{has_triple}
 use Rattle.label_graph.specs.Sorted.{In}
 use Rattle.match_order.specs.Whole.{vertices}
-use Rattle.tree_search.specs.Ends.{row_from, is_place, triple_of, ends_of}
+use Rattle.dcg_transition.specs.Ends.{row_from, triple_of, ends_from, IsPlaceOf}
 use Rattle.tree_search.specs.Members.{members_from, members_over, GrewUpTo}
 use Rattle.tree_search.specs.Spent.{MeetsNoDeadEnd, cost_from, members_cost}
 use Rattle.tree_search.proofs.search.+extend.Given as goal
@@ -16,18 +16,19 @@ abbrev pub invariant-loop-x : goal.invariant-loop-x
 invariant-loop-x g l =
     let q = l.search.pattern.now in
     let graph = g.G.HoldGraph.graph l.search.graph.now in
-    let row = row_from l.row.side (g.G.HoldGraph.outs_from l.search.graph.now) (g.G.HoldGraph.ins_from l.search.graph.now) l.row.vertex in
+    let row = row_from (g.G.HoldGraph.outs_from l.search.graph.now) (g.G.HoldGraph.ins_from l.search.graph.now) l.row in
+    let ends = ends_from (g.G.HoldGraph.outs_from l.search.graph.now) (g.G.HoldGraph.ins_from l.search.graph.now) l.row in
     let list = g.F.Found.list in
     record {
-      place : is_place l.row.side (g.G.HoldGraph.is_out_place l.search.graph.now) (g.G.HoldGraph.is_in_place l.search.graph.now) l.row.vertex l.at;
+      place : IsPlaceOf (g.G.HoldGraph.is_out_place l.search.graph.now) (g.G.HoldGraph.is_in_place l.search.graph.now) l.row l.at;
       partial : l.partial ≡ l.fn.partial;
-      stand : (x : ℕ) → In (ends_of l.row.side l.row.label.now (row l.at)) x → IsTrue (has_triple graph (triple_of l.row.side l.row.vertex l.row.label.now x));
-      found : GrewUpTo (list l.fn.found) (list l.found) (members_over q graph l.fn.partial l.w (ends_of l.row.side l.row.label.now (row l.at))) (members_from q graph l.fn.partial);
+      stand : (x : ℕ) → In (ends l.at) x → IsTrue (has_triple graph (triple_of l.row.direction l.row.vertex l.row.label.now x));
+      found : GrewUpTo (list l.fn.found) (list l.found) (members_over q graph l.fn.partial l.w (ends l.at)) (members_from q graph l.fn.partial);
       steps : MeetsNoDeadEnd q l.search.tree.now → l.search.order.start ≡ l.search.tree.now.root
-          → l.steps + ((length q.edges + 2) * (length (row l.at) + 1) + sum_by (cost_from q l.search.tree.now graph l.search.order (l.k + 1)) (members_over q graph l.fn.partial l.w (ends_of l.row.side l.row.label.now (row l.at))))
+          → l.steps + ((length q.edges + 2) * (length (row l.at) + 1) + sum_by (cost_from q l.search.tree.now graph l.search.order (l.k + 1)) (members_over q graph l.fn.partial l.w (ends l.at)))
           ≤ l.fn.steps + members_cost q l.search.tree.now graph l.search.order l.k l.fn.partial;
     }
 
 abbrev pub decreases-loop-x : goal.decreases-loop-x
 decreases-loop-x g l =
-    length (ends_of l.row.side l.row.label.now (row_from l.row.side (g.G.HoldGraph.outs_from l.search.graph.now) (g.G.HoldGraph.ins_from l.search.graph.now) l.row.vertex l.at))
+    length (row_from (g.G.HoldGraph.outs_from l.search.graph.now) (g.G.HoldGraph.ins_from l.search.graph.now) l.row l.at)

@@ -4,7 +4,7 @@ use Rattle.std.proofs.lemmas.Option.{get_or_from_slice_get}
 use Rattle.flux_model.specs.Partial.{id_of}
 use Rattle.flux_model.specs.Order.{are_neighbours}
 use Rattle.flux_model.specs.Tree.{edge_at}
-use Rattle.tree_search.specs.Ends.{side_of}
+use Rattle.dcg_transition.specs.Ends.{direction_to}
 use Rattle.tree_search.specs.Given.{nth_vertex, nth_anchor, edge_between}
 use Rattle.tree_search.proofs.TieLemmas.{anchor_inside, anchor_beside, anchor_given}
 use Rattle.tree_search.proofs.search.row_at.Goals as goal
@@ -18,7 +18,7 @@ edge_between-edge-requires-clause-anchor g c =
 pub edge_between-edge-requires-clause-joined : goal.edge_between-edge-requires-clause-joined
 edge_between-edge-requires-clause-joined g c =
     let s = c.args.search.now in
-    (λ i. are_neighbours s.tree.now (c.vertex.ensures i) (c.anchor-anchor.ensures i))
+    (λ i. are_neighbours s.tree.now (c.vertex-w.ensures i) (c.anchor-anchor.ensures i))
     ∙ anchor_beside s.pattern.now s.tree.now s.dcg.now (g.G.HoldGraph.graph s.graph.now) s.order c.requires.ready c.args.k c.requires.some c.requires.few
 
 pub get-requires : goal.get-requires
@@ -42,9 +42,9 @@ returns g c =
     let t = s.tree.now in
     let is = get_or_from_slice_get c.args.partial.now c.anchor-anchor.result c.get.result None c.get.ensures in
     let edge : c.edge_between-edge.result.now ≡ edge_at q (edge_between t (nth_vertex s.order c.args.k) (nth_anchor s.order c.args.k)) =
-    c.edge_between-edge.ensures ∙ (λ i. edge_at q (edge_between t (c.vertex.ensures i) (c.anchor-anchor.ensures i))) in
+    c.edge_between-edge.ensures ∙ (λ i. edge_at q (edge_between t (c.vertex-w.ensures i) (c.anchor-anchor.ensures i))) in
     record {
       anchor = ap (id_of c.args.partial.now) (sym c.anchor-anchor.ensures) ∙ is ∙ c.unwrap.ensures;
-      direction = c.side_of.ensures ∙ (λ i. side_of (c.anchor-anchor.ensures i) (edge i));
+      leads = c.to.ensures ∙ (λ i. direction_to (edge i) (c.vertex-w.ensures i));
       name = ap (λ e. e.label) edge;
     }

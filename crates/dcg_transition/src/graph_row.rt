@@ -1,0 +1,86 @@
+//! `GraphRow`: a row of a graph vertex, as it is walked for one label.
+ghost use Rattle.std.specs.Prelude.{◌≡◌, ◌+◌, ◌<◌, ◌≤◌, [], ◌∷◌, length, IsTrue, IfSome, MatchOption, IsPermutation};
+ghost use Rattle.flux_model.specs.Graph.{has_vertex};
+ghost use Rattle.dcg_transition.specs.Ends.{triple_of, whole_row, row_from, ends_from, IsPlaceOf};
+
+use crate::direction::Direction;
+use flux_model::{Ledger, Steps, Text};
+use label_graph::{HoldGraph, ReadGraph, Spot, Turn};
+
+/// The row of a vertex of the graph in a direction, of which the triples of one label count.
+///
+/// It is walked from `first` on by `next`, which gives the other end of each such triple once.
+#[derive(Drop)]
+pub struct GraphRow<'a> {
+    /// The vertex whose row it is.
+    pub vertex: u32,
+    /// Whether it is the out row or the in row.
+    pub direction: Direction,
+    /// The label of the triples that count.
+    pub label: &'a Text,
+}
+
+impl<'a> GraphRow<'a> {
+    /// The first place of the row.
+    pub fn first<G: HoldGraph>(&self, graph: &G) -> Spot
+        requires { IsTrue (has_vertex (G.graph graph.now) self.now.vertex) }
+        ensures place { IsPlaceOf (G.is_out_place graph.now) (G.is_in_place graph.now) self.now result }
+        ensures all { IsPermutation (row_from (G.outs_from graph.now) (G.ins_from graph.now) self.now result) (whole_row self.now.direction (G.graph graph.now) self.now.vertex) }
+    {
+        match self.direction {
+            Direction::Out => graph.out_row(self.vertex),
+            Direction::In => graph.in_row(self.vertex),
+        }
+    }
+
+    /// The other end of the next triple of the label, from the place `from` on, and the place after it.
+    ///
+    /// `None` where no such triple is left. It takes one step for each triple that it passes, and one more at the row's end.
+    pub fn next<G: ReadGraph<L>, L: Ledger>(
+        &self,
+        graph: &G,
+        from: Spot,
+        steps: &mut Steps<L>,
+    ) -> Option<(u32, Spot)>
+        requires stands { IsTrue (has_vertex (G.graph graph.now) self.now.vertex) }
+        requires place { IsPlaceOf (G.is_out_place graph.now) (G.is_in_place graph.now) self.now from }
+        ensures next { IfSome result (λ t. IsPlaceOf (G.is_out_place graph.now) (G.is_in_place graph.now) self.now t.1) }
+        ensures end { IfSome result (λ t. IsTrue (has_vertex (G.graph graph.now) t.0)) }
+        ensures ends { MatchOption result (ends_from (G.outs_from graph.now) (G.ins_from graph.now) self.now from ≡ [])
+            (λ t. ends_from (G.outs_from graph.now) (G.ins_from graph.now) self.now from ≡ t.0 ∷ ends_from (G.outs_from graph.now) (G.ins_from graph.now) self.now t.1) }
+        ensures less { IfSome result (λ t. length (row_from (G.outs_from graph.now) (G.ins_from graph.now) self.now t.1) < length (row_from (G.outs_from graph.now) (G.ins_from graph.now) self.now from)) }
+        ensures steps { MatchOption result (steps.new ≤ steps.old + length (row_from (G.outs_from graph.now) (G.ins_from graph.now) self.now from) + 1)
+            (λ t. steps.new + length (row_from (G.outs_from graph.now) (G.ins_from graph.now) self.now t.1) ≤ steps.old + length (row_from (G.outs_from graph.now) (G.ins_from graph.now) self.now from)) }
+    {
+        let mut at = from;
+        while let Some(turn) = self.turn(graph, at, steps) {
+            at = turn.next;
+            if *self.label == *turn.label {
+                return Some((turn.other, at));
+            }
+        }
+        None
+    }
+
+    /// What the row has at a place, of any label, or `None` at its end.
+    fn turn<'g, G: ReadGraph<L>, L: Ledger>(
+        &self,
+        graph: &'g G,
+        at: Spot,
+        steps: &mut Steps<L>,
+    ) -> Option<Turn<'g>>
+        requires stands { IsTrue (has_vertex (G.graph graph.now) self.now.vertex) }
+        requires place { IsPlaceOf (G.is_out_place graph.now) (G.is_in_place graph.now) self.now at }
+        ensures next { IfSome result (λ t. IsPlaceOf (G.is_out_place graph.now) (G.is_in_place graph.now) self.now t.next) }
+        ensures end { IfSome result (λ t. IsTrue (has_vertex (G.graph graph.now) t.other)) }
+        ensures turn { MatchOption result (row_from (G.outs_from graph.now) (G.ins_from graph.now) self.now at ≡ [])
+            (λ t. row_from (G.outs_from graph.now) (G.ins_from graph.now) self.now at
+            ≡ triple_of self.now.direction self.now.vertex t.label.now t.other ∷ row_from (G.outs_from graph.now) (G.ins_from graph.now) self.now t.next) }
+        ensures step { steps.new ≡ steps.old + 1 }
+    {
+        match self.direction {
+            Direction::Out => graph.out_at(self.vertex, at, steps),
+            Direction::In => graph.in_at(self.vertex, at, steps),
+        }
+    }
+}
