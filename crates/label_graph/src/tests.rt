@@ -1,121 +1,119 @@
 //! Answers worked out by hand.
 use crate::{HoldGraph, KeepGraph, LabelGraph, ReadGraph, Spot};
-use flux_model::{Code, Labels, Ledger, Limits, Silent, Steps, Tally, Text, Triple};
+use flux_model::{Code, Labels, Ledger, Limits, Steps, Tally, Text, Triple};
 use std::alloc::{AllocError, Global};
+use std::process::Abort;
 use std::test::Fail;
 
-/// The labels of these tests.
-#[derive(Clone, Copy, PartialEq, Eq)]
-enum Name {
-    A,
-    B,
-    C,
-    R,
-    S,
-    T,
-}
+/// What a change answers.
+type Answer = Result<(), Code>;
 
-use Name::{A, B, C, R, S, T};
+/// A triple. Each label of these tests is one letter.
+type Edge = (u32, u8, u32);
 
-/// A change with its operands.
+/// A turn of a row: its label and its other end.
+type Seen = (u8, u32);
+
+/// A line of a script: calls of a store, with what they are due to answer. A read of a vertex first asks whether it is one.
 #[derive(Clone, Copy)]
-enum Step {
-    AddVertex(u32, Name),
-    RemoveVertex(u32),
-    Insert(u32, Name, u32),
-    Remove(u32, Name, u32),
+enum Line {
+    /// A vertex with these labels.
+    AddVertex(u32, &'static [u8], Answer),
+    RemoveVertex(u32, Answer),
+    Insert(Edge, Answer),
+    Remove(Edge, Answer),
+    /// How many vertices and triples there are.
+    Sizes(u64, u64),
+    /// The ids in the store's order.
+    Ids(&'static [u32]),
+    HasVertex(u32, bool),
+    HasEdge(Edge, bool),
+    /// The labels of a vertex, in ascending order.
+    LabelsOf(u32, &'static [u8]),
+    /// Whether a vertex has each of these labels.
+    Fits(u32, &'static [u8], bool),
+    /// How many triples begin at a vertex, and how many end there.
+    Degrees(u32, u64, u64),
+    OutRow(u32, &'static [Seen]),
+    InRow(u32, &'static [Seen]),
+    /// How many steps the reads of the script have taken so far.
+    Counted(u64),
+    /// The vertices 0 to `MANY` are added, and an edge from 0 to each other one.
+    MakeStar,
+    /// The edges of the star are removed in another order.
+    TakeStar,
 }
 
-use Step::{AddVertex, Insert, Remove, RemoveVertex};
+use Line::{
+    AddVertex, Counted, Degrees, Fits, HasEdge, HasVertex, Ids, InRow, Insert, LabelsOf, MakeStar,
+    OutRow, Remove, RemoveVertex, Sizes, TakeStar,
+};
 
-fn text(alloc: Global, name: Name) -> Result<Text, AllocError> {
-    match name {
-        Name::A => Text::from_bytes(alloc, b"A"),
-        Name::B => Text::from_bytes(alloc, b"B"),
-        Name::C => Text::from_bytes(alloc, b"C"),
-        Name::R => Text::from_bytes(alloc, b"r"),
-        Name::S => Text::from_bytes(alloc, b"s"),
-        Name::T => Text::from_bytes(alloc, b"t"),
-    }
+fn text(rt: &impl Abort, alloc: Global, letter: u8) -> Result<Text, AllocError> {
+    let bytes = [letter];
+    assert!(rt; Text::is_text(&bytes));
+    Text::from_bytes(alloc, &bytes)
 }
 
-fn label_set(alloc: Global, name: Name) -> Result<Labels, AllocError> {
+/// Adds one label.
+fn add(rt: &impl Abort, labels: &mut Labels, label: Text) -> Result<(), AllocError> {
+    assert!(rt; labels.len() < 16);
+    labels.add(label)
+}
+
+fn labels(rt: &impl Abort, alloc: Global, letters: &[u8]) -> Result<Labels, AllocError> {
     let mut labels = Labels::new(alloc);
-    labels.add(text(alloc, name)?)?;
-    Ok(labels)
-}
-
-fn two_labels(alloc: Global, first: Name, second: Name) -> Result<Labels, AllocError> {
-    let mut labels = label_set(alloc, first)?;
-    if labels.len() < 16 {
-        labels.add(text(alloc, second)?)?;
+    for letter in letters {
+        add(rt, &mut labels, text(rt, alloc, *letter)?)?;
     }
     Ok(labels)
 }
 
-fn triple(alloc: Global, src: u32, name: Name, dst: u32) -> Result<Triple, AllocError> {
-    let label = text(alloc, name)?;
+fn triple(rt: &impl Abort, alloc: Global, (src, letter, dst): Edge) -> Result<Triple, AllocError> {
+    let label = text(rt, alloc, letter)?;
     Ok(Triple { src, label, dst })
 }
 
-/// Makes a change through the trait's bound.
-fn change<G: KeepGraph>(
+// ---- changes through the bound: whether the answer is the one that is due
+
+fn adds_vertex<G: KeepGraph>(
+    rt: &impl Abort,
     alloc: Global,
     graph: &mut G,
-    step: Step,
-) -> Result<Result<(), Code>, AllocError> {
-    match step {
-        Step::AddVertex(id, name) => graph.add_vertex(id, &label_set(alloc, name)?),
-        Step::RemoveVertex(id) => Ok(graph.remove_vertex(id)),
-        Step::Insert(src, name, dst) => graph.insert(&triple(alloc, src, name, dst)?),
-        Step::Remove(src, name, dst) => Ok(graph.remove(&triple(alloc, src, name, dst)?)),
-    }
+    (id, letters): (u32, &[u8]),
+    due: Answer,
+) -> Result<bool, AllocError> {
+    let labels = labels(rt, alloc, letters)?;
+    Ok(graph.add_vertex(id, &labels)? == due)
 }
 
-/// How many steps, from the first on, answer as they should.
-fn count_right<G: KeepGraph>(
+fn removes_vertex<G: KeepGraph>(graph: &mut G, id: u32, due: Answer) -> bool {
+    graph.remove_vertex(id) == due
+}
+
+fn inserts<G: KeepGraph>(
+    rt: &impl Abort,
     alloc: Global,
     graph: &mut G,
-    steps: &[(Step, Result<(), Code>)],
-) -> Result<usize, AllocError> {
-    for i in 0..steps.len() {
-        let (step, answer) = steps[i];
-        if change(alloc, graph, step)? != answer {
-            return Ok(i);
-        }
-    }
-    Ok(steps.len())
+    edge: Edge,
+    due: Answer,
+) -> Result<bool, AllocError> {
+    let triple = triple(rt, alloc, edge)?;
+    Ok(graph.insert(&triple)? == due)
 }
 
-/// The vertex 1 with the label `A`, and 2 with `B`.
-const TWO_VERTICES: [(Step, Result<(), Code>); 2] = [
-    (AddVertex(1, A), Ok(())),
-    (AddVertex(2, B), Ok(())),
-];
-
-/// Limits of which one is another.
-fn with_edges(edges: u64) -> Limits {
-    Limits {
-        edges,
-        ..Limits::standard()
-    }
-}
-
-fn with_labels(labels: u64) -> Limits {
-    Limits {
-        labels,
-        ..Limits::standard()
-    }
+fn removes<G: KeepGraph>(
+    rt: &impl Abort,
+    alloc: Global,
+    graph: &mut G,
+    edge: Edge,
+    due: Answer,
+) -> Result<bool, AllocError> {
+    let triple = triple(rt, alloc, edge)?;
+    Ok(graph.remove(&triple) == due)
 }
 
 // ---- reads through the bounds
-
-/// A turn of a row, with the label told by its first byte.
-type Seen = (u8, u32);
-
-fn seen(label: &Text, other: u32) -> Seen {
-    (label.bytes()[0], other)
-}
 
 /// The turns of the out row of a vertex, in the row's order; none where it is no vertex.
 fn out_row<G: ReadGraph<L>, L: Ledger>(
@@ -131,7 +129,7 @@ fn out_row<G: ReadGraph<L>, L: Ledger>(
     let mut at: Spot = graph.out_row(v);
     while let Some(turn) = graph.out_at(v, at, steps) {
         at = turn.next;
-        row.push(seen(turn.label, turn.other))?;
+        row.push((turn.label.bytes()[0], turn.other))?;
     }
     Ok(row)
 }
@@ -150,7 +148,7 @@ fn in_row<G: ReadGraph<L>, L: Ledger>(
     let mut at: Spot = graph.in_row(v);
     while let Some(turn) = graph.in_at(v, at, steps) {
         at = turn.next;
-        row.push(seen(turn.label, turn.other))?;
+        row.push((turn.label.bytes()[0], turn.other))?;
     }
     Ok(row)
 }
@@ -168,143 +166,206 @@ fn ids<G: ReadGraph<L>, L: Ledger>(
     Ok(ids)
 }
 
-/// The degrees of a vertex: out, then in; none where it is no vertex.
-fn degrees<G: ReadGraph<L>, L: Ledger>(
+/// Whether the labels of the vertex are these, in this order.
+fn has_labels<G: ReadGraph<L>, L: Ledger>(
     graph: &G,
     v: u32,
+    letters: &[u8],
     steps: &mut Steps<L>,
-) -> Option<(u64, u64)> {
-    if graph.has_vertex(v, steps) {
-        Some((graph.out_degree(v), graph.in_degree(v)))
-    } else {
-        None
+) -> bool {
+    if !graph.has_vertex(v, steps) {
+        return false;
     }
-}
-
-/// How many labels a vertex has, and whether it has each of some; nothing where it is no vertex.
-fn fitting<G: ReadGraph<L>, L: Ledger>(
-    graph: &G,
-    v: u32,
-    labels: &Labels,
-    steps: &mut Steps<L>,
-) -> Option<(usize, bool)> {
-    if graph.has_vertex(v, steps) {
-        Some((
-            graph.labels_of(v, steps).len(),
-            graph.fits(v, labels, steps),
-        ))
-    } else {
-        None
+    let labels = graph.labels_of(v, steps);
+    if labels.len() != letters.len() {
+        return false;
     }
-}
-
-fn has<G: ReadGraph<L>, L: Ledger>(
-    alloc: Global,
-    graph: &G,
-    (src, name, dst): (u32, Name, u32),
-    steps: &mut Steps<L>,
-) -> Result<bool, AllocError> {
-    Ok(graph.has_edge(src, &text(alloc, name)?, dst, steps))
-}
-
-/// Whether these are the rows of a vertex.
-fn rows_are(
-    alloc: Global,
-    graph: &LabelGraph,
-    v: u32,
-    outs: &[Seen],
-    ins: &[Seen],
-) -> Result<bool, AllocError> {
-    let mut steps = Steps::new(Silent);
-    let out = out_row(alloc, graph, v, &mut steps)?;
-    let into = in_row(alloc, graph, v, &mut steps)?;
-    Ok(*out.as_slice() == *outs && *into.as_slice() == *ins)
-}
-
-/// Whether each of these triples stands, or none of them.
-fn all_stand(
-    alloc: Global,
-    graph: &LabelGraph,
-    triples: &[(u32, Name, u32)],
-    stand: bool,
-) -> Result<bool, AllocError> {
-    let mut steps = Steps::new(Silent);
-    for triple in triples {
-        if has(alloc, graph, *triple, &mut steps)? != stand {
-            return Ok(false);
+    for i in 0..letters.len() {
+        if labels.get(i).bytes() != &letters[i..i + 1] {
+            return false;
         }
     }
-    Ok(true)
+    true
+}
+
+/// Whether the row, or the list of ids, is this one.
+fn is_list<T: PartialEq + Copy>(list: Vec<T>, due: &[T]) -> bool {
+    *list.as_slice() == *due
+}
+
+fn has_edge<G: ReadGraph<L>, L: Ledger>(graph: &G, triple: Triple, steps: &mut Steps<L>) -> bool {
+    graph.has_edge(triple.src, &triple.label, triple.dst, steps)
+}
+
+/// Whether the vertex has each of these labels; nothing where it is no vertex.
+fn fits<G: ReadGraph<L>, L: Ledger>(
+    graph: &G,
+    v: u32,
+    labels: Labels,
+    steps: &mut Steps<L>,
+) -> Option<bool> {
+    if graph.has_vertex(v, steps) {
+        Some(graph.fits(v, &labels, steps))
+    } else {
+        None
+    }
+}
+
+/// Whether these are the degrees of a vertex, out and in.
+fn has_degrees<G: ReadGraph<L>, L: Ledger>(
+    graph: &G,
+    v: u32,
+    outs: u64,
+    ins: u64,
+    steps: &mut Steps<L>,
+) -> bool {
+    graph.has_vertex(v, steps) && graph.out_degree(v) == outs && graph.in_degree(v) == ins
+}
+
+// ---- scripts
+
+/// Whether the reads of the line answer as it says.
+fn reads(
+    rt: &impl Abort,
+    alloc: Global,
+    graph: &LabelGraph,
+    line: Line,
+    steps: &mut Steps<Tally>,
+) -> Result<bool, AllocError> {
+    Ok(match line {
+        Line::Sizes(vertices, edges) => {
+            graph.vertex_count() == vertices && graph.edge_count() == edges
+        }
+        Line::Ids(due) => is_list(ids(alloc, graph, steps)?, due),
+        Line::HasVertex(v, due) => graph.has_vertex(v, steps) == due,
+        Line::HasEdge(edge, due) => has_edge(graph, triple(rt, alloc, edge)?, steps) == due,
+        Line::LabelsOf(v, letters) => has_labels(graph, v, letters, steps),
+        Line::Fits(v, letters, due) => {
+            fits(graph, v, labels(rt, alloc, letters)?, steps) == Some(due)
+        }
+        Line::Degrees(v, outs, ins) => has_degrees(graph, v, outs, ins, steps),
+        Line::OutRow(v, due) => is_list(out_row(alloc, graph, v, steps)?, due),
+        Line::InRow(v, due) => is_list(in_row(alloc, graph, v, steps)?, due),
+        Line::Counted(due) => steps.ledger().read() == due,
+        _ => false,
+    })
+}
+
+/// Whether the calls of the line answer as it says.
+fn answers(
+    rt: &impl Abort,
+    alloc: Global,
+    graph: &mut LabelGraph,
+    line: Line,
+    steps: &mut Steps<Tally>,
+) -> Result<bool, AllocError> {
+    match line {
+        Line::AddVertex(id, letters, due) => adds_vertex(rt, alloc, graph, (id, letters), due),
+        Line::RemoveVertex(id, due) => Ok(removes_vertex(graph, id, due)),
+        Line::Insert(edge, due) => inserts(rt, alloc, graph, edge, due),
+        Line::Remove(edge, due) => removes(rt, alloc, graph, edge, due),
+        Line::MakeStar => makes_star(rt, alloc, graph),
+        Line::TakeStar => takes_star(rt, alloc, graph, steps),
+        line => reads(rt, alloc, graph, line, steps),
+    }
+}
+
+/// Asserts that each line of a script answers as it says.
+fn play(
+    rt: &impl Abort,
+    alloc: Global,
+    graph: &mut LabelGraph,
+    script: &[Line],
+) -> Result<(), AllocError> {
+    let mut steps = Steps::new(Tally::new());
+    for i in 0..script.len() {
+        assert!(rt;
+            answers(rt, alloc, graph, script[i], &mut steps)?,
+            "line {i}"
+        );
+    }
+    Ok(())
+}
+
+/// Plays a script in an empty store under these limits.
+fn play_under(
+    rt: &impl Abort,
+    alloc: Global,
+    limits: &Limits,
+    script: &[Line],
+) -> Result<(), AllocError> {
+    assert!(rt; limits.fair());
+    play(rt, alloc, &mut LabelGraph::new(alloc, limits), script)
 }
 
 // ---- refusals
 
 #[test]
 fn more_triples_than_the_limit_are_refused(rt: HostRuntime) -> Result<(), Fail> {
-    let alloc = rt.alloc();
-    let limits = with_edges(1);
-    assert!(rt; limits.fair());
-    let mut graph = LabelGraph::new(alloc, &limits);
-    assert_eq!(rt; count_right(alloc, &mut graph, &TWO_VERTICES)?, 2);
-    let steps = [
-        (Insert(1, R, 2), Ok(())),
-        (Insert(2, R, 1), Err(Code::Full)),
-        (Insert(1, R, 2), Err(Code::Exists)),
+    let limits = Limits {
+        edges: 1,
+        ..Limits::standard()
+    };
+    const SCRIPT: &[Line] = &[
+        AddVertex(1, b"A", Ok(())),
+        AddVertex(2, b"B", Ok(())),
+        Insert((1, b'r', 2), Ok(())),
+        Insert((2, b'r', 1), Err(Code::Full)),
+        Insert((1, b'r', 2), Err(Code::Exists)),
+        Sizes(2, 1),
     ];
-    assert_eq!(rt; count_right(alloc, &mut graph, &steps)?, 3);
-    assert_eq!(rt; graph.edge_count(), 1);
+    play_under(&rt, rt.alloc(), &limits, SCRIPT)?;
     Ok(())
 }
 
 #[test]
 fn a_name_that_nothing_bears_is_not_counted(rt: HostRuntime) -> Result<(), Fail> {
-    let alloc = rt.alloc();
-    let limits = with_labels(2);
-    assert!(rt; limits.fair());
-    let mut graph = LabelGraph::new(alloc, &limits);
-    assert_eq!(rt; count_right(alloc, &mut graph, &TWO_VERTICES)?, 2);
-    let steps = [
-        (Insert(1, R, 2), Err(Code::Full)),
-        (RemoveVertex(2), Ok(())),
-        (AddVertex(3, C), Ok(())),
-        (Insert(1, R, 3), Err(Code::Full)),
-        (AddVertex(4, B), Err(Code::Full)),
-        (RemoveVertex(3), Ok(())),
-        (Insert(1, R, 1), Ok(())),
-        (Insert(1, S, 1), Err(Code::Full)),
-        (AddVertex(5, R), Ok(())),
-        (Remove(1, R, 1), Ok(())),
-        (Insert(1, S, 1), Err(Code::Full)),
-        (RemoveVertex(5), Ok(())),
-        (Insert(1, S, 1), Ok(())),
+    let limits = Limits {
+        labels: 2,
+        ..Limits::standard()
+    };
+    const SCRIPT: &[Line] = &[
+        AddVertex(1, b"A", Ok(())),
+        AddVertex(2, b"B", Ok(())),
+        Insert((1, b'r', 2), Err(Code::Full)),
+        RemoveVertex(2, Ok(())),
+        AddVertex(3, b"C", Ok(())),
+        Insert((1, b'r', 3), Err(Code::Full)),
+        AddVertex(4, b"B", Err(Code::Full)),
+        RemoveVertex(3, Ok(())),
+        Insert((1, b'r', 1), Ok(())),
+        Insert((1, b's', 1), Err(Code::Full)),
+        AddVertex(5, b"r", Ok(())),
+        Remove((1, b'r', 1), Ok(())),
+        Insert((1, b's', 1), Err(Code::Full)),
+        RemoveVertex(5, Ok(())),
+        Insert((1, b's', 1), Ok(())),
     ];
-    assert_eq!(rt; count_right(alloc, &mut graph, &steps)?, 13);
+    play_under(&rt, rt.alloc(), &limits, SCRIPT)?;
     Ok(())
 }
 
 #[test]
 fn each_refusal_has_its_cause(rt: HostRuntime) -> Result<(), Fail> {
-    let alloc = rt.alloc();
-    let limits = Limits::standard();
-    assert!(rt; limits.fair());
-    let mut graph = LabelGraph::new(alloc, &limits);
-    assert_eq!(rt; count_right(alloc, &mut graph, &TWO_VERTICES)?, 2);
-    let steps = [
-        (Insert(1, R, 2), Ok(())),
-        (AddVertex(1, A), Err(Code::Exists)),
-        (RemoveVertex(2), Err(Code::Busy)),
-        (RemoveVertex(1), Err(Code::Busy)),
-        (RemoveVertex(9), Err(Code::NoVertex)),
-        (Insert(1, R, 9), Err(Code::NoVertex)),
-        (Insert(9, R, 1), Err(Code::NoVertex)),
-        (Remove(1, R, 9), Err(Code::NoVertex)),
-        (Remove(2, R, 1), Err(Code::Absent)),
-        (Remove(1, S, 2), Err(Code::Absent)),
+    const SCRIPT: &[Line] = &[
+        AddVertex(1, b"A", Ok(())),
+        AddVertex(2, b"B", Ok(())),
+        Insert((1, b'r', 2), Ok(())),
+        AddVertex(1, b"A", Err(Code::Exists)),
+        RemoveVertex(2, Err(Code::Busy)),
+        RemoveVertex(1, Err(Code::Busy)),
+        RemoveVertex(9, Err(Code::NoVertex)),
+        Insert((1, b'r', 9), Err(Code::NoVertex)),
+        Insert((9, b'r', 1), Err(Code::NoVertex)),
+        Remove((1, b'r', 9), Err(Code::NoVertex)),
+        Remove((2, b'r', 1), Err(Code::Absent)),
+        Remove((1, b's', 2), Err(Code::Absent)),
+        HasEdge((1, b'r', 2), true),
+        HasEdge((2, b'r', 1), false),
+        HasEdge((1, b's', 2), false),
+        HasEdge((1, b'r', 9), false),
     ];
-    assert_eq!(rt; count_right(alloc, &mut graph, &steps)?, 10);
-    assert!(rt; all_stand(alloc, &graph, &[(1, R, 2)], true)?);
-    let others = [(2, R, 1), (1, S, 2), (1, R, 9)];
-    assert!(rt; all_stand(alloc, &graph, &others, false)?);
+    play_under(&rt, rt.alloc(), &Limits::standard(), SCRIPT)?;
     Ok(())
 }
 
@@ -312,106 +373,87 @@ fn each_refusal_has_its_cause(rt: HostRuntime) -> Result<(), Fail> {
 
 #[test]
 fn a_self_loop_stands_in_both_rows_once(rt: HostRuntime) -> Result<(), Fail> {
-    let alloc = rt.alloc();
-    let limits = Limits::standard();
-    assert!(rt; limits.fair());
-    let mut graph = LabelGraph::new(alloc, &limits);
-    assert_eq!(rt; count_right(alloc, &mut graph, &TWO_VERTICES)?, 2);
-    let more = [(Insert(1, R, 1), Ok(())), (Insert(2, S, 1), Ok(()))];
-    assert_eq!(rt; count_right(alloc, &mut graph, &more)?, 2);
-    assert!(rt; rows_are(alloc, &graph, 1, &[(b'r', 1)], &[(b'r', 1), (b's', 2)])?);
-    assert!(rt; rows_are(alloc, &graph, 2, &[(b's', 1)], &[])?);
-    let less = [
-        (Remove(1, R, 1), Ok(())),
-        (Remove(1, R, 1), Err(Code::Absent)),
+    const SCRIPT: &[Line] = &[
+        AddVertex(1, b"A", Ok(())),
+        AddVertex(2, b"B", Ok(())),
+        Insert((1, b'r', 1), Ok(())),
+        Insert((2, b's', 1), Ok(())),
+        OutRow(1, &[(b'r', 1)]),
+        InRow(1, &[(b'r', 1), (b's', 2)]),
+        OutRow(2, &[(b's', 1)]),
+        InRow(2, &[]),
+        Remove((1, b'r', 1), Ok(())),
+        Remove((1, b'r', 1), Err(Code::Absent)),
+        OutRow(1, &[]),
+        InRow(1, &[(b's', 2)]),
     ];
-    assert_eq!(rt; count_right(alloc, &mut graph, &less)?, 2);
-    assert!(rt; rows_are(alloc, &graph, 1, &[], &[(b's', 2)])?);
+    play_under(&rt, rt.alloc(), &Limits::standard(), SCRIPT)?;
     Ok(())
-}
-
-/// How many steps each kind of read takes: the out row of 1, the in row of 2, the listed ids, the degrees of 1, and a test of
-/// a triple, after one another.
-fn steps_of_reads(alloc: Global, graph: &LabelGraph) -> Result<[u64; 5], AllocError> {
-    let mut steps = Steps::new(Tally::new());
-    out_row(alloc, graph, 1, &mut steps)?;
-    let outs = steps.ledger().read();
-    in_row(alloc, graph, 2, &mut steps)?;
-    let ins = steps.ledger().read();
-    ids(alloc, graph, &mut steps)?;
-    let listed = steps.ledger().read();
-    degrees(graph, 1, &mut steps);
-    let degrees = steps.ledger().read();
-    has(alloc, graph, (2, R, 1), &mut steps)?;
-    Ok([outs, ins, listed, degrees, steps.ledger().read()])
 }
 
 #[test]
 fn each_read_counts_one_step(rt: HostRuntime) -> Result<(), Fail> {
-    let alloc = rt.alloc();
-    let limits = Limits::standard();
-    assert!(rt; limits.fair());
-    let mut graph = LabelGraph::new(alloc, &limits);
-    assert_eq!(rt; count_right(alloc, &mut graph, &TWO_VERTICES)?, 2);
-    let more = [(Insert(1, R, 2), Ok(())), (Insert(1, S, 2), Ok(()))];
-    assert_eq!(rt; count_right(alloc, &mut graph, &more)?, 2);
-    // A row: the test of the vertex, two turns and the row's end. Degrees count nothing beside that test.
-    assert_eq!(rt; steps_of_reads(alloc, &graph)?, [4, 8, 10, 11, 12]);
+    const SCRIPT: &[Line] = &[
+        AddVertex(1, b"A", Ok(())),
+        AddVertex(2, b"B", Ok(())),
+        Insert((1, b'r', 2), Ok(())),
+        Insert((1, b's', 2), Ok(())),
+        // A row: the test of the vertex, two turns and the row's end.
+        OutRow(1, &[(b'r', 2), (b's', 2)]),
+        Counted(4),
+        InRow(2, &[(b'r', 1), (b's', 1)]),
+        Counted(8),
+        Ids(&[1, 2]),
+        Counted(10),
+        // Degrees count nothing beside the test of the vertex.
+        Degrees(1, 2, 0),
+        Counted(11),
+        HasEdge((2, b'r', 1), false),
+        Counted(12),
+        // These test the vertex, and then read once.
+        LabelsOf(1, b"A"),
+        Fits(1, b"B", false),
+        Counted(16),
+    ];
+    play_under(&rt, rt.alloc(), &Limits::standard(), SCRIPT)?;
     Ok(())
 }
 
 #[test]
 fn each_vertex_is_listed_once(rt: HostRuntime) -> Result<(), Fail> {
-    let alloc = rt.alloc();
-    let limits = Limits::standard();
-    assert!(rt; limits.fair());
-    let mut graph = LabelGraph::new(alloc, &limits);
-    assert_eq!(rt; count_right(alloc, &mut graph, &TWO_VERTICES)?, 2);
-    let mut reads = Steps::new(Silent);
-    assert_eq!(rt;
-        ids(alloc, &graph, &mut reads)?.as_slice(),
-        [1, 2].as_slice()
-    );
-    assert_eq!(rt; degrees(&graph, 2, &mut reads), Some((0, 0)));
-    assert_eq!(rt; degrees(&graph, 3, &mut reads), None);
+    const SCRIPT: &[Line] = &[
+        AddVertex(1, b"A", Ok(())),
+        AddVertex(2, b"B", Ok(())),
+        Ids(&[1, 2]),
+        Degrees(2, 0, 0),
+        HasVertex(2, true),
+        HasVertex(3, false),
+    ];
+    play_under(&rt, rt.alloc(), &Limits::standard(), SCRIPT)?;
     Ok(())
-}
-
-/// How many labels each of the vertices 1 to 4 has, and whether it has each of these.
-fn fits_of(graph: &LabelGraph, labels: &Labels) -> [Option<(usize, bool)>; 4] {
-    let mut steps = Steps::new(Silent);
-    [
-        fitting(graph, 1, labels, &mut steps),
-        fitting(graph, 2, labels, &mut steps),
-        fitting(graph, 3, labels, &mut steps),
-        fitting(graph, 4, labels, &mut steps),
-    ]
 }
 
 #[test]
 fn a_vertex_fits_by_all_of_its_labels(rt: HostRuntime) -> Result<(), Fail> {
-    let alloc = rt.alloc();
-    let limits = Limits::standard();
-    assert!(rt; limits.fair());
-    let mut graph = LabelGraph::new(alloc, &limits);
-    let both = two_labels(alloc, A, B)?;
-    let second = label_set(alloc, B)?;
-    let none = Labels::new(alloc);
-    assert_eq!(rt; graph.add_vertex(1, &both)?, Ok(()));
-    assert_eq!(rt; graph.add_vertex(2, &second)?, Ok(()));
-    assert_eq!(rt; graph.add_vertex(3, &none)?, Ok(()));
-    assert_eq!(rt;
-        fits_of(&graph, &both),
-        [Some((2, true)), Some((1, false)), Some((0, false)), None]
-    );
-    assert_eq!(rt;
-        fits_of(&graph, &second),
-        [Some((2, true)), Some((1, true)), Some((0, false)), None]
-    );
-    assert_eq!(rt;
-        fits_of(&graph, &none),
-        [Some((2, true)), Some((1, true)), Some((0, true)), None]
-    );
+    const SCRIPT: &[Line] = &[
+        AddVertex(1, b"BA", Ok(())),
+        AddVertex(2, b"B", Ok(())),
+        AddVertex(3, b"", Ok(())),
+        LabelsOf(1, b"AB"),
+        LabelsOf(2, b"B"),
+        LabelsOf(3, b""),
+        HasVertex(4, false),
+        Fits(1, b"AB", true),
+        Fits(2, b"AB", false),
+        Fits(3, b"AB", false),
+        Fits(1, b"B", true),
+        Fits(2, b"B", true),
+        Fits(3, b"B", false),
+        Fits(1, b"", true),
+        Fits(2, b"", true),
+        Fits(3, b"", true),
+    ];
+    play_under(&rt, rt.alloc(), &Limits::standard(), SCRIPT)?;
     Ok(())
 }
 
@@ -420,92 +462,88 @@ fn a_vertex_fits_by_all_of_its_labels(rt: HostRuntime) -> Result<(), Fail> {
 const MANY: u32 = 10000;
 
 /// The label of the edge from 0 to `k`: one of three in turn.
-fn name_of(k: u32) -> Name {
-    match k % 3 {
-        0 => R,
-        1 => S,
-        _ => T,
-    }
+fn letter_of(k: u32) -> u8 {
+    b"rst"[k as usize % 3]
 }
 
-fn first_byte(name: Name) -> u8 {
-    match name {
-        Name::A => b'A',
-        Name::B => b'B',
-        Name::C => b'C',
-        Name::R => b'r',
-        Name::S => b's',
-        Name::T => b't',
+/// Takes the edge of a turn off those that are left, if it is there.
+fn tick_off(left: &mut [bool], (letter, other): Seen) -> bool {
+    match left.get_mut(other as usize) {
+        Some(stands) if *stands && letter == letter_of(other) => {
+            *stands = false;
+            true
+        }
+        _ => false,
     }
 }
 
 /// Whether the row is what stands: each turn leads with its label to a vertex that stands for it, none twice, and there are
 /// as many as stand.
-fn lists_what_stands(alloc: Global, row: &[Seen], standing: &[bool]) -> Result<bool, AllocError> {
-    let mut left = standing.to_vec(alloc)?;
-    for (label, other) in row {
-        match left.get_mut(*other as usize) {
-            Some(stands) if *stands && *label == first_byte(name_of(*other)) => *stands = false,
-            _ => return Ok(false),
+fn lists_what_stands(row: Vec<Seen>, standing: Vec<bool>) -> bool {
+    let mut left = standing;
+    for turn in row.as_slice() {
+        if !tick_off(left.as_mut_slice(), *turn) {
+            return false;
         }
     }
-    Ok(!left.iter().any(|stands| *stands))
+    !left.as_slice().contains(&true)
 }
 
-/// The vertices 0 to `MANY`, and an edge from 0 to each other one; whether all were accepted.
-fn star<G: KeepGraph>(alloc: Global, graph: &mut G) -> Result<bool, AllocError> {
+/// Adds the vertices 0 to `MANY`, and an edge from 0 to each other one; whether all were accepted.
+fn makes_star<G: KeepGraph>(
+    rt: &impl Abort,
+    alloc: Global,
+    graph: &mut G,
+) -> Result<bool, AllocError> {
     for k in 0..=MANY {
-        if graph.add_vertex(k, &Labels::new(alloc))? != Ok(()) {
+        if !adds_vertex(rt, alloc, graph, (k, b""), Ok(()))? {
             return Ok(false);
         }
     }
     for k in 1..=MANY {
-        if change(alloc, graph, Insert(0, name_of(k), k))? != Ok(()) {
+        if !inserts(rt, alloc, graph, (0, letter_of(k), k), Ok(()))? {
             return Ok(false);
         }
     }
     Ok(true)
 }
 
-/// Takes the edges of a star away in another order, and looks at the row of 0 after each hundred: how many were taken
-/// before something was not as it should be.
-fn take_star(alloc: Global, graph: &mut LabelGraph) -> Result<u32, AllocError> {
-    let mut steps = Steps::new(Silent);
+/// Removes the edges of a star in another order; whether all were accepted, and the row of 0 was what stood after each hundred.
+fn takes_star(
+    rt: &impl Abort,
+    alloc: Global,
+    graph: &mut LabelGraph,
+    steps: &mut Steps<Tally>,
+) -> Result<bool, AllocError> {
     let mut standing = vec![in alloc; true; MANY as usize + 1]?;
     standing[0] = false;
-    let mut taken = 0;
     for i in 1..=MANY {
         // 3889 and 10001 have no common divisor, so each number comes once.
         let k = (i as u64 * 3889 % 10001) as u32;
-        if change(alloc, graph, Remove(0, name_of(k), k))? != Ok(()) {
-            return Ok(taken);
+        if !removes(rt, alloc, graph, (0, letter_of(k), k), Ok(()))? {
+            return Ok(false);
         }
-        if let Some(stands) = standing.get_mut(k as usize) {
-            *stands = false;
-        }
+        tick_off(standing.as_mut_slice(), (letter_of(k), k));
         if i % 100 == 0 {
-            let row = out_row(alloc, graph, 0, &mut steps)?;
-            if !lists_what_stands(alloc, row.as_slice(), standing.as_slice())? {
-                return Ok(taken);
+            let row = out_row(alloc, graph, 0, steps)?;
+            if !lists_what_stands(row, standing.clone()?) {
+                return Ok(false);
             }
         }
-        taken = i;
     }
-    Ok(taken)
+    Ok(true)
 }
 
 #[test]
 fn a_high_degree_is_taken_down_in_another_order(rt: HostRuntime) -> Result<(), Fail> {
-    let alloc = rt.alloc();
-    let limits = Limits::standard();
-    assert!(rt; limits.fair());
-    let mut graph = LabelGraph::new(alloc, &limits);
-    assert!(rt; star(alloc, &mut graph)?);
-    assert_eq!(rt; graph.edge_count(), 10000);
-    assert_eq!(rt; take_star(alloc, &mut graph)?, 10000);
-    assert_eq!(rt; graph.edge_count(), 0);
-    assert_eq!(rt; graph.vertex_count(), 10001);
-    let mut reads = Steps::new(Silent);
-    assert_eq!(rt; degrees(&graph, 0, &mut reads), Some((0, 0)));
+    const SCRIPT: &[Line] = &[
+        MakeStar,
+        Sizes(10001, 10000),
+        Degrees(0, 10000, 0),
+        TakeStar,
+        Sizes(10001, 0),
+        Degrees(0, 0, 0),
+    ];
+    play_under(&rt, rt.alloc(), &Limits::standard(), SCRIPT)?;
     Ok(())
 }
