@@ -34,7 +34,7 @@ inputs limits files (Some shape) = accepted limits files shape
 
 -- the count of faults rose of the shelf, or of the updates, where they are read
 abbrev pub OneRose : Option Shape → (shelf0 shelf1 read0 read1 : ℕ) → Type 0
-OneRose asked shelf0 shelf1 read0 read1 = MatchOption asked ⊥ (λ shape. Rose shelf0 shelf1 ⊎ ReadsUpdates shape × Rose read0 read1)
+OneRose asked shelf0 shelf1 read0 read1 = MatchOption asked ⊥ (λ shape. Rose shelf0 shelf1 ⊎ (ReadsUpdates shape × Rose read0 read1))
 
 -- a run ends with a verdict, and all that is due by then was written; `ending` says what is due for which bytes of the updates
 abbrev pub EndsAs : Option (List ℕ) → (List ℕ → Ending) → (old new : Option (List ℕ)) → Verdict → Type 0

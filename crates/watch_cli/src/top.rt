@@ -1,5 +1,5 @@
 //! The one call that the program makes.
-ghost use Rattle.std.specs.Prelude.{◌≡◌, ◌⊎◌, ◌↔◌, None, Some, IsOk, OnOk, IfErr, IfSome, MatchOption};
+ghost use Rattle.std.specs.Prelude.{◌≡◌, ◌⊎◌, ◌↔◌, [], None, Some, IsOk, ⊤, OnOk, IfErr, IfSome, MatchOption};
 ghost use Rattle.std.specs.Io.KnownBytes.{Appends, IsAtEnd};
 ghost use Rattle.flux_outside.specs.Causes.{Rose};
 ghost use Rattle.flux_outside.specs.Told.{AppendsFront};
@@ -85,6 +85,7 @@ fn judge<F: Shelf, S: Source, W: Sink, L: Ledger>(
 ) -> Status
     requires { IsFair limits.now }
     ensures usage { (result ≡ Status.Usage) ↔ (shape_of (texts words.now) ≡ None) }
+    ensures unasked { MatchOption (shape_of (texts words.now)) (Appends (W.taken out.old) (W.taken out.new) []) (λ _. ⊤) }
     ensures end { result ≡ Status.Done → IfSome (shape_of (texts words.now)) (λ shape. ReadsUpdates shape → IsAtEnd (S.left updates.new)) }
     ensures unread { MatchOption (shape_of (texts words.now)) (updates.new ≡ updates.old) (λ shape. ¬ ReadsUpdates shape → updates.new ≡ updates.old) }
     ensures front { RunEndsBefore limits.now (F.files shelf.old) (shape_of (texts words.now)) (S.left updates.old) (W.taken out.old) (W.taken out.new) }
@@ -142,6 +143,7 @@ pub fn run<F: Shelf, S: Source, W: Sink, E: Sink, L: Ledger>(
 ) -> Ended
     requires { IsFair limits.now }
     ensures usage { (result.status ≡ Status.Usage) ↔ (shape_of (texts words.now) ≡ None) }
+    ensures unasked { MatchOption (shape_of (texts words.now)) (Appends (W.taken out.old) (W.taken out.new) []) (λ _. ⊤) }
     ensures verdict { IfSome (verdict_of result.status) (λ v. IfSome (F.files shelf.old) (λ m. Held (S.left updates.old) (λ s.
         (verdict limits.now m (texts words.now) s ≡ v) × Appends (W.taken out.old) (W.taken out.new) (due limits.now m (texts words.now) s)))) }
     ensures complete { IfSome (F.files shelf.old) (λ m. Held (S.left updates.old) (λ s.
