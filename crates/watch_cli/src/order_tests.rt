@@ -24,7 +24,8 @@ impl Sink for CountingSink<'_> {
 
     fn put(&mut self, piece: &[u8]) -> Result<(), Failed> {
         self.sink.put(piece)?;
-        self.put.set(self.put.get().saturating_add(piece.len() as u64));
+        self.put
+            .set(self.put.get().saturating_add(piece.len() as u64));
         Ok(())
     }
 }
