@@ -1,16 +1,12 @@
 -- What a line of a file makes of what is kept of the file.
-use Rattle.std.specs.Prelude.{ℕ, Bool, true, false, Result, Ok}
+use Rattle.std.specs.Prelude.{ℕ, false, Result, Ok}
 use Rattle.flux_model.specs.Lines.{InputLine}
 use Rattle.flux_model.specs.Reading.{graph_reading, pattern_reading}
 use Rattle.flux_model.specs.FileReading.{result_and_then}
 use Rattle.flux_model.specs.Graph.{LimitedGraph}
 use Rattle.flux_model.specs.GraphFile.{graph_after_line}
 use Rattle.flux_model.specs.PatternFile.{patterns_after_line}
-use Rattle.flux_model.specs.declared.code.Code.{Code}
-use Rattle.flux_model.specs.declared.code.Code.TheVariants as code
 use Rattle.flux_model.specs.declared.code.Bad.{Bad}
-use Rattle.flux_model.specs.declared.graph.Update.{Update}
-use Rattle.flux_model.specs.declared.graph.Update.TheVariants.{AddEdge}
 use Rattle.pattern_check.specs.Reading.{PatternReading}
 
 -- a graph stays under its limits
@@ -22,8 +18,3 @@ after_graph_line k kept line =
 abbrev pub after_pattern_line : ℕ → PatternReading → InputLine → Result PatternReading Bad
 after_pattern_line k reading line =
     result_and_then (λ draft. Ok (record reading { draft = draft; spent = false })) (patterns_after_line reading.limits k reading.draft (pattern_reading line))
-
--- the refusal of an edge that is there already
-abbrev pub is_repeat : Update → Code → Bool
-is_repeat (AddEdge t) code.Exists = true
-is_repeat _ _ = false

@@ -1,7 +1,8 @@
 //! A graph file: its lines go into a graph.
 ghost use Rattle.std.specs.Prelude.{◌≡◌, ℕ, Bool, false, Result, Ok, Err, IfOk, OnOk, MatchResult};
 ghost use Rattle.flux_model.specs.Seen.{seen_line};
-ghost use Rattle.watch_cli.specs.Taking.{is_repeat, after_graph_line};
+ghost use Rattle.watch_core.specs.Repeated.{is_repeat};
+ghost use Rattle.watch_cli.specs.Taking.{after_graph_line};
 
 use crate::take::TakeLine;
 use flux_model::{Bad, Code, Line, Said, Update};
