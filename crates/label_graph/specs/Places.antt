@@ -31,10 +31,6 @@ outs nodes v = outs_of (lookup (nat_eq v) nodes)
 abbrev pub ins : List (ℕ × Node) → ℕ → List Turn
 ins nodes v = ins_of (lookup (nat_eq v) nodes)
 
--- the labels of a vertex, where it stands
-abbrev pub labels_at : List (ℕ × Node) → ℕ → Option (List (List ℕ))
-labels_at nodes v = option_map (λ p. p.labels) (lookup (nat_eq v) nodes)
-
 -- the triple of a turn, in the out row of a vertex and in its in row
 abbrev pub out_link : ℕ → Turn → Link
 out_link v t = record { src = v; label = t.label; dst = t.other }

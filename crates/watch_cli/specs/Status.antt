@@ -1,9 +1,8 @@
 -- The exit statuses, and the line that standard error gets of each.
-use Rattle.std.specs.Prelude.{ℕ, List, [], ◌++◌, codes, ⊤}
+use Rattle.std.specs.Prelude.{ℕ, List, [], ◌++◌, codes}
 use Rattle.std.specs.Fmt.{decimal}
 use Rattle.flux_model.specs.Code.{code_word}
 use Rattle.flux_model.specs.declared.code.Code.{Code}
-use Rattle.flux_model.specs.declared.code.Bad.{Bad}
 use Rattle.watch_cli.specs.declared.status.Status.{Status}
 use Rattle.watch_cli.specs.declared.status.Status.TheVariants.{Done, Usage, BadGraph, BadPatterns, NoFile, ReadFault, WriteFault, Memory, TooMuch}
 
@@ -32,13 +31,3 @@ status_number ReadFault = 5
 status_number WriteFault = 6
 status_number Memory = 7
 status_number TooMuch = 8
-
--- what is so of the first refusal that the status tells, if it is one of the graph file
-abbrev pub IfBadGraph : Status → (Bad → Type 0) → Type 0
-IfBadGraph (BadGraph line code) P = P (record { line = line; code = code })
-IfBadGraph _ P = ⊤
-
--- or of the pattern file
-abbrev pub IfBadPatterns : Status → (Bad → Type 0) → Type 0
-IfBadPatterns (BadPatterns line code) P = P (record { line = line; code = code })
-IfBadPatterns _ P = ⊤
