@@ -2,13 +2,13 @@
 ghost use Rattle.std.specs.Prelude.{◌≡◌, codes, length, false, IfOk};
 ghost use Rattle.flux_model.specs.Tree.{BelongsTo};
 
-use crate::build;
+use crate::{Direction, GraphRow, build};
 use dcg_store::Dcg;
 use flux_model::State::{Explicit, Implicit, Null};
 use flux_model::{
     Cards, Labels, Limits, Mode, Pattern, PatternEdge, State, Steps, Tally, Text, Triple,
 };
-use label_graph::{KeepGraph, LabelGraph};
+use label_graph::{KeepGraph, LabelGraph, ReadGraph};
 use query_tree::QueryTree;
 use std::alloc::{AllocError, Global};
 use std::process::Abort;
@@ -213,5 +213,54 @@ fn a_path_goes_round_a_circle(rt: HostRuntime) -> Result<(), Fail> {
         most_steps: 24 * (3 + 2) * (2 + 4 + 1),
     };
     check(&rt, rt.alloc(), &case)?;
+    Ok(())
+}
+
+/// The one end that the row of vertex 1 has for the label `r`, and how many steps the whole row takes.
+fn only_end(
+    rt: &impl Abort,
+    alloc: Global,
+    graph: &LabelGraph,
+    direction: Direction,
+) -> Result<(u32, u64), AllocError> {
+    let label = Text::from_bytes(alloc, b"r")?;
+    assert!(rt; graph.has_vertex(1, &mut Steps::new(Tally::new())));
+    let row = GraphRow {
+        vertex: 1,
+        direction,
+        label: &label,
+    };
+    let mut steps = Steps::new(Tally::new());
+    let found = row.next(graph, row.first(graph), &mut steps);
+    assert!(rt; found.is_some());
+    let (end, next) = found.unwrap();
+    assert!(rt; row.next(graph, next, &mut steps).is_none());
+    Ok((end, steps.ledger().read()))
+}
+
+#[test]
+fn a_row_is_walked_for_one_label(rt: HostRuntime) -> Result<(), Fail> {
+    let alloc = rt.alloc();
+    let mut graph = graph_of(&rt, alloc, &[(1, ""), (2, ""), (3, "")], &[(1, 2), (3, 1)])?;
+    let label = Text::from_bytes(alloc, b"s")?;
+    let added = graph.insert(&Triple {
+        src: 1,
+        label,
+        dst: 3,
+    })?;
+    assert!(rt; added.is_ok());
+    assert_eq!(rt; only_end(&rt, alloc, &graph, Direction::Out)?, (2, 3));
+    assert_eq!(rt; only_end(&rt, alloc, &graph, Direction::In)?, (3, 2));
+    Ok(())
+}
+
+#[test]
+fn an_edge_leads_to_its_ends(rt: HostRuntime) -> Result<(), Fail> {
+    let alloc = rt.alloc();
+    let there = edge(alloc, 0, 1)?;
+    assert_eq!(rt; Direction::to(&there, 1), Direction::Out);
+    assert_eq!(rt; Direction::to(&there, 0), Direction::In);
+    let round = edge(alloc, 2, 2)?;
+    assert_eq!(rt; Direction::to(&round, 2), Direction::Out);
     Ok(())
 }
