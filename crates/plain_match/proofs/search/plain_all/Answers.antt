@@ -5,7 +5,7 @@ use Rattle.std.specs.List.{filter}
 use Rattle.flux_model.specs.Ordered.{is_ascending}
 use Rattle.flux_model.specs.Embedding.{is_embedding, embeddings}
 use Rattle.plain_match.specs.Extensions.{extensions}
-use Rattle.plain_match.proofs.EmbeddingLemmas.{embeddings-ascending}
+use Rattle.flux_laws.proofs.EmbeddingsLemmas.{embeddings-ascending}
 use Rattle.plain_match.proofs.search.plain_all.Goals as goal
 
 all : (c : goal.After-drop-prefix-2) → c.extend.new.found ≡ embeddings c.args.pattern.now c.args.graph.now.graph

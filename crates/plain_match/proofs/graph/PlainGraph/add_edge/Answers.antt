@@ -6,8 +6,8 @@ use Rattle.flux_model.specs.declared.code.Code.{Code}
 use Rattle.flux_model.specs.declared.graph.Vertex.{Vertex}
 use Rattle.flux_model.specs.declared.graph.Triple.{Triple}
 use Rattle.plain_match.specs.Kept.{IsKept}
-use Rattle.plain_match.proofs.LimitLemmas.{with_triple_within}
-use Rattle.plain_match.proofs.GraphLemmas.{with_triple_graph, add_edge_ok}
+use Rattle.flux_laws.proofs.LimitLemmas.{with_triple_within}
+use Rattle.flux_laws.proofs.OneMoreLemmas.{with_triple_graph, add_edge_ok}
 use Rattle.plain_match.proofs.graph.PlainGraph.add_edge.Goals as goal
 
 abbrev okay : Graph → Result Graph Code

@@ -5,8 +5,8 @@ use Rattle.flux_model.specs.Graph.{Graph, vertex_cmp, name_count}
 use Rattle.flux_model.specs.declared.graph.Vertex.{Vertex}
 use Rattle.flux_model.specs.declared.graph.Triple.{Triple}
 use Rattle.plain_match.specs.Kept.{IsKept}
-use Rattle.plain_match.proofs.GraphLemmas.{with_vertex_graph}
-use Rattle.plain_match.proofs.LimitLemmas.{with_vertex_within}
+use Rattle.flux_laws.proofs.OneMoreLemmas.{with_vertex_graph}
+use Rattle.flux_laws.proofs.LimitLemmas.{with_vertex_within}
 use Rattle.plain_match.proofs.graph.PlainGraph.add_vertex.Goals as goal
 
 -- the graph before, and the new vertex

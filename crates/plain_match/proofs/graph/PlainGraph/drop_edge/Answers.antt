@@ -2,8 +2,8 @@ use Rattle.std.proofs.Common.{List, sym, subst}
 use Rattle.flux_model.specs.Graph.{Graph}
 use Rattle.flux_model.specs.declared.graph.Triple.{Triple}
 use Rattle.plain_match.specs.Kept.{IsKept}
-use Rattle.plain_match.proofs.LimitLemmas.{without_triple_within}
-use Rattle.plain_match.proofs.GraphLemmas.{without_triple_graph}
+use Rattle.flux_laws.proofs.LimitLemmas.{without_triple_within}
+use Rattle.flux_laws.proofs.OneMoreLemmas.{without_triple_graph}
 use Rattle.plain_match.proofs.graph.PlainGraph.drop_edge.Goals as goal
 
 -- the graph before

@@ -3,8 +3,8 @@ use Rattle.flux_model.specs.Graph.{Graph, has_incident_triple}
 use Rattle.flux_model.specs.declared.graph.Vertex.{Vertex}
 use Rattle.flux_model.specs.declared.graph.Triple.{Triple}
 use Rattle.plain_match.specs.Kept.{IsKept}
-use Rattle.plain_match.proofs.LimitLemmas.{without_vertex_within}
-use Rattle.plain_match.proofs.GraphLemmas.{without_vertex_graph}
+use Rattle.flux_laws.proofs.LimitLemmas.{without_vertex_within}
+use Rattle.flux_laws.proofs.OneMoreLemmas.{without_vertex_graph}
 use Rattle.plain_match.proofs.graph.PlainGraph.drop_vertex.Goals as goal
 
 -- the graph before
