@@ -14,19 +14,13 @@ use Rattle.flux_model.specs.Change.{gained, lost, same_map}
 use Rattle.flux_model.specs.Report.{change_lines}
 use Rattle.flux_model.specs.Deltas.{HasMap, IsReordered, IsInOrder, with_delta, change_deltas}
 use Rattle.flux_model.specs.declared.maps.Delta.{Delta}
+use Rattle.flux_model.proofs.DeltasLemmas.{with_delta-append}
 use Rattle.delta_report.specs.Block.{HavePatterns, delta_lines, name_at, deltas_text}
 use Rattle.delta_report.specs.Sorted.{AreSorted}
 use Rattle.delta_report.proofs.BlockLemmas.{name_at-get}
 use Rattle.delta_report.proofs.EmbeddingsLemmas.{kept-sorted}
 
 -- ---- the text
-
-with_delta-append : (d : Delta) (ds es : List Delta) → with_delta d (ds ++ es) ≡ with_delta d ds ++ es
-with_delta-append d ds es = by (nat_lt 0 (length (d.gained ++ d.lost)))
-  where
-    by : (b : Bool) → cond b (d ∷ (ds ++ es)) (ds ++ es) ≡ cond b (d ∷ ds) ds ++ es
-    by true = refl
-    by false = refl
 
 -- a delta without a map has no lines
 deltas_text-with_delta : (k : ℕ) (patterns : List PatternGraph) (d : Delta) (ds : List Delta) → deltas_text k patterns (with_delta d ds) ≡ delta_lines k (name_at patterns d.pattern) d ++ deltas_text k patterns ds

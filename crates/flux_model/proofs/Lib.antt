@@ -9,3 +9,4 @@ pub mod TreeRows
 pub mod VerdictRows
 pub mod GrownLemmas
 pub mod SortedLemmas
+pub mod PlaceLemmas

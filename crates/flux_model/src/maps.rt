@@ -186,6 +186,17 @@ pub struct Delta {
     pub lost: Maps,
 }
 
+impl Delta {
+    ghost use Rattle.std.specs.Prelude.{nat_lt};
+
+    /// Whether something was gained or lost.
+    pub fn has_map(&self) -> bool
+        ensures { result ≡ nat_lt 0 (length (self.now.gained ++ self.now.lost)) }
+    {
+        self.gained.len() > 0 || self.lost.len() > 0
+    }
+}
+
 /// The deltas of an update, ascending by pattern. Each has gained or lost a map.
 #[derive(Drop)]
 pub struct Deltas {
@@ -206,7 +217,7 @@ impl Model for Deltas {
 
 impl Deltas {
     ghost use Rattle.std.specs.Prelude.{Some};
-    ghost use Rattle.flux_model.specs.Deltas.{HasMap, IsAbove};
+    ghost use Rattle.flux_model.specs.Deltas.{HasMap, IsAbove, with_delta};
 
     /// The empty list.
     pub fn new(alloc: Global) -> Deltas
@@ -227,6 +238,20 @@ impl Deltas {
         ensures err { OnErr result (self.new ≡ self.old) }
     {
         self.deltas.push(d)?;
+        Ok(())
+    }
+
+    /// Appends a delta at the end, where it has a map. Its pattern has to be above all that are there.
+    ///
+    /// At `AllocError` the list is as before.
+    pub fn add_unless_empty(&mut self, d: Delta) -> Result<(), AllocError>
+        requires { IsAbove self.old d }
+        ensures ok { OnOk result (self.new ≡ self.old ++ with_delta d []) }
+        ensures err { OnErr result (self.new ≡ self.old) }
+    {
+        if d.has_map() {
+            self.add(d)?;
+        }
         Ok(())
     }
 

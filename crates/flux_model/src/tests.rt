@@ -158,6 +158,31 @@ fn deltas_are_sorted(rt: HostRuntime) -> Result<(), Fail> {
 }
 
 #[test]
+fn a_delta_without_a_map_is_left_out(rt: HostRuntime) -> Result<(), Fail> {
+    let alloc = rt.alloc();
+    let mut deltas = Deltas::new(alloc);
+    let empty = Delta {
+        pattern: 0,
+        gained: Maps::new(alloc),
+        lost: Maps::new(alloc),
+    };
+    assert!(rt; !empty.has_map());
+    deltas.add_unless_empty(empty)?;
+    assert!(rt; deltas.len() == 0);
+    let lost = Delta {
+        pattern: 1,
+        gained: Maps::new(alloc),
+        lost: maps_of(alloc, &[&[4]])?,
+    };
+    assert!(rt; lost.has_map());
+    deltas.add_unless_empty(lost)?;
+    assert_eq!(rt; deltas.len(), 1);
+    assert_eq!(rt; deltas.get(0).pattern, 1);
+    assert_maps(&rt, &deltas.get(0).lost, &[&[4]]);
+    Ok(())
+}
+
+#[test]
 fn places_and_partial_maps(rt: HostRuntime) {
     for (x, answer) in [
         (1, Err(0)),

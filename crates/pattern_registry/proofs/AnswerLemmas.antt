@@ -1,15 +1,17 @@
 -- Deltas of answers that a loop makes pattern by pattern.
 use Rattle.std.proofs.Common.{◌≡◌, ℕ, suc, ◌+◌, ◌<◌, Bool, true, false, cond, nat_lt, List, [], ◌∷◌, ◌++◌, length, take, refl, sym, ap, subst, ◌∙◌, arith, Some}
 use Rattle.std.specs.Prelude.{IsPermutation}
-use Rattle.std.specs.List.{AllByRecursion, slice_get}
-use Rattle.std.proofs.lemmas.List.{take_more, length-append, length-take}
+use Rattle.std.specs.List.{slice_get}
+use Rattle.std.proofs.lemmas.List.{length-append, length-take}
 use Rattle.std.proofs.lemmas.List.Sorted.{IsPermutation-sym, IsPermutation-refl, length_permutation}
-use Rattle.std.proofs.lemmas.Option.{slice_get_within, get_or_from_slice_get}
+use Rattle.std.proofs.lemmas.Option.{slice_get_within}
 use Rattle.flux_model.specs.Graph.{Graph}
 use Rattle.flux_model.specs.Pattern.{PatternGraph}
 use Rattle.flux_model.specs.Embedding.{embeddings}
 use Rattle.flux_model.specs.declared.maps.Delta.{Delta}
 use Rattle.flux_model.specs.Deltas.{IsReordered, AreReordered, with_delta, answer_deltas}
+use Rattle.flux_model.proofs.DeltasLemmas.{with_delta-append}
+use Rattle.flux_model.proofs.PlaceLemmas.{take_next}
 use Rattle.tree_search.specs.Members.{GrewByAll}
 use Rattle.pattern_registry.proofs.ZipLemmas.{AllZip-append}
 
@@ -20,13 +22,6 @@ found-all old new all none grew =
     subst (IsPermutation all) (sym is) (IsPermutation-sym grew.more all grew.permutation)
 
 -- ---- one pattern more
-
-with_delta-append : (d : Delta) (ds es : List Delta) → with_delta d (ds ++ es) ≡ with_delta d ds ++ es
-with_delta-append d ds es = by (nat_lt 0 (length (d.gained ++ d.lost)))
-  where
-    by : (b : Bool) → cond b (d ∷ (ds ++ es)) (ds ++ es) ≡ cond b (d ∷ ds) ds ++ es
-    by true = refl
-    by false = refl
 
 -- the delta of a pattern that is answered
 abbrev answer : ℕ → Graph → PatternGraph → Delta
@@ -39,10 +34,6 @@ answer_deltas-append i g (q ∷ qs) rs =
     ap (with_delta (answer i g q)) (answer_deltas-append (suc i) g qs rs)
     ∙ with_delta-append (answer i g q) (answer_deltas (suc i) g qs) (answer_deltas (suc i + length qs) g rs)
     ∙ ap (λ n. with_delta (answer i g q) (answer_deltas (suc i) g qs) ++ answer_deltas n g rs) number
-
-take_next : {X : Type 0} (xs : List X) (i : ℕ) (x : X) → slice_get xs i ≡ Some x → take (i + 1) xs ≡ take i xs ++ x ∷ []
-take_next xs i x e =
-    take_more xs i x (slice_get_within xs i x e) ∙ ap (λ y. take i xs ++ y ∷ []) (get_or_from_slice_get xs i x x e)
 
 answers_next : (g : Graph) (qs : List PatternGraph) (k : ℕ) (q : PatternGraph) → slice_get qs k ≡ Some q
     → answer_deltas 0 g (take (k + 1) qs) ≡ answer_deltas 0 g (take k qs) ++ with_delta (answer k g q) []
@@ -70,26 +61,3 @@ reordered_next g qs k q old new maps none e maps_are none_is before now =
     rw (answers_next g qs k q e, now)
     (AllZip-append IsReordered (answer_deltas 0 g (take k qs)) (with_delta (answer k g q) []) old (with_delta (record { pattern = k; gained = maps; lost = none }) []) before
     (with_delta-reordered (answer k g q) (record { pattern = k; gained = maps; lost = none }) (record { pattern = refl; gained = maps_are; lost = rw none_is (IsPermutation-refl []) })))
-
--- ---- the patterns ascend
-
-abbrev IsBelow : ℕ → Delta → Type 0
-IsBelow n d = d.pattern < n
-
-below_weaker : (n : ℕ) (ds : List Delta) → AllByRecursion (IsBelow n) ds → AllByRecursion (IsBelow (n + 1)) ds
-below_weaker n [] a = tt
-below_weaker n (d ∷ ds) a = (omega arith, below_weaker n ds a.1)
-
-below_append : (n : ℕ) (ds es : List Delta) → AllByRecursion (IsBelow n) ds → AllByRecursion (IsBelow n) es → AllByRecursion (IsBelow n) (ds ++ es)
-below_append n [] es a b = b
-below_append n (d ∷ ds) es a b = (a.0, below_append n ds es a.1 b)
-
-below_one : (n : ℕ) (d : Delta) → d.pattern < n → AllByRecursion (IsBelow n) (with_delta d [])
-below_one n d h = by (nat_lt 0 (length (d.gained ++ d.lost)))
-  where
-    by : (b : Bool) → AllByRecursion (IsBelow n) (cond b (d ∷ []) [])
-    by true = (h, tt)
-    by false = tt
-
-pub below_next : (n : ℕ) (ds new : List Delta) (d : Delta) → d.pattern ≡ n → AllByRecursion (λ (e : Delta). e.pattern < n) ds → new ≡ ds ++ with_delta d [] → AllByRecursion (λ (e : Delta). e.pattern < n + 1) new
-below_next n ds new d is a now = rw now (below_append (n + 1) ds (with_delta d []) (below_weaker n ds a) (below_one (n + 1) d (omega arith)))

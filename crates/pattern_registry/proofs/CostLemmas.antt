@@ -2,16 +2,12 @@
 use Rattle.std.proofs.Common.{◌≡◌, ℕ, ◌+◌, List, ◌∷◌, drop, ap, ◌∙◌}
 use Rattle.std.specs.Prelude.{Some}
 use Rattle.std.specs.List.{slice_get}
-use Rattle.std.proofs.lemmas.List.{drop_more}
-use Rattle.std.proofs.lemmas.Option.{slice_get_within, get_or_from_slice_get}
 use Rattle.flux_model.specs.Costs.{full_cost}
 use Rattle.flux_model.specs.Graph.{Graph}
 use Rattle.flux_model.specs.Pattern.{PatternGraph}
 use Rattle.flux_model.specs.Tree.{QueryTree}
+use Rattle.flux_model.proofs.PlaceLemmas.{drop_here}
 use Rattle.pattern_registry.specs.Spent.{full_costs}
-
-drop_here : {X : Type 0} (xs : List X) (k : ℕ) (x : X) → slice_get xs k ≡ Some x → drop k xs ≡ x ∷ drop (k + 1) xs
-drop_here xs k x e = drop_more xs k x (slice_get_within xs k x e) ∙ ap (λ y. y ∷ drop (k + 1) xs) (get_or_from_slice_get xs k x x e)
 
 pub full_costs-next : (g : Graph) (patterns : List PatternGraph) (trees : List QueryTree) (k : ℕ) (q : PatternGraph) (t : QueryTree) → slice_get patterns k ≡ Some q → slice_get trees k ≡ Some t
     → full_costs g (drop k patterns) (drop k trees) ≡ full_cost q t g + full_costs g (drop (k + 1) patterns) (drop (k + 1) trees)

@@ -2,10 +2,8 @@
 //!
 //! - `registry`: `Registry`, the patterns and what is kept of each.
 //! - `index`: `PatternIndex`, the tree and the rows of one pattern.
-//! - `deltas`: deltas, of which those without a map are left out.
 #![tactic(auto)]
 
-mod deltas;
 mod index;
 mod registry;
 #[cfg(test)]

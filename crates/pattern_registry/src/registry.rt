@@ -9,7 +9,6 @@ ghost use Rattle.flux_model.specs.Tree.{BelongsTo};
 ghost use Rattle.pattern_registry.specs.States.{trees_over, IsIndexed, AreExact};
 ghost use Rattle.pattern_registry.specs.Spent.{MeetNoDeadEnd, full_costs};
 
-use crate::deltas::add_delta;
 use crate::index::PatternIndex;
 use dcg_store::Dcg;
 use flux_model::{Delta, Deltas, Ledger, Maps, Patterns, Steps};
@@ -95,7 +94,7 @@ impl Registry {
                 gained,
                 lost: Maps::new(alloc),
             };
-            add_delta(&mut deltas, delta)?;
+            deltas.add_unless_empty(delta)?;
         }
         Ok(deltas)
     }

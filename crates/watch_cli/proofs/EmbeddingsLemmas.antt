@@ -1,27 +1,18 @@
 -- Lists that a loop makes one element at a time.
-use Rattle.std.proofs.Common.{◌≡◌, ℕ, suc, ◌+◌, ◌<◌, Bool, true, false, ◌||◌, cond, nat_lt, List, [], ◌∷◌, ◌++◌, length, get_or, take, drop, refl, sym, ap, ◌∙◌, append_assoc, arith, Some}
+use Rattle.std.proofs.Common.{◌≡◌, ℕ, suc, ◌+◌, ◌<◌, Bool, true, false, ◌||◌, cond, List, [], ◌∷◌, ◌++◌, length, get_or, take, drop, refl, sym, ap, ◌∙◌, append_assoc, arith, Some}
 use Rattle.std.specs.List.{list_any, filter, slice_get, AllByRecursion}
 use Rattle.std.proofs.lemmas.List.{take_more, drop_more, map-append}
-use Rattle.std.proofs.lemmas.Option.{slice_get_within, get_or_from_slice_get}
 use Rattle.flux_model.specs.Graph.{Graph}
 use Rattle.flux_model.specs.Pattern.{PatternGraph}
 use Rattle.flux_model.specs.Embedding.{embeddings}
 use Rattle.flux_model.specs.Change.{without}
 use Rattle.flux_model.specs.declared.maps.Delta.{Delta}
 use Rattle.flux_model.specs.Deltas.{with_delta, change_deltas}
+use Rattle.flux_model.proofs.DeltasLemmas.{with_delta-append}
+use Rattle.flux_model.proofs.PlaceLemmas.{take_next, drop_here}
 use Rattle.watch_cli.specs.Deltas.{embeddings_of, deltas_from}
 
 module _ {X : Type 0} where
-  drop_here : (xs : List X) (i : ℕ) (x : X) → slice_get xs i ≡ Some x → drop i xs ≡ x ∷ drop (i + 1) xs
-  drop_here xs i x e =
-      let h : i < length xs = slice_get_within xs i x e in
-      drop_more xs i x h ∙ ap (λ y. y ∷ drop (i + 1) xs) (get_or_from_slice_get xs i x x e)
-
-  take_next : (xs : List X) (i : ℕ) (x : X) → slice_get xs i ≡ Some x → take (i + 1) xs ≡ take i xs ++ x ∷ []
-  take_next xs i x e =
-      let h : i < length xs = slice_get_within xs i x e in
-      take_more xs i x h ∙ ap (λ y. take i xs ++ y ∷ []) (get_or_from_slice_get xs i x x e)
-
   -- the test holds of the element at i
   pub any_here : (p : X → Bool) (xs : List X) (i : ℕ) (x : X) → slice_get xs i ≡ Some x → p x ≡ true → list_any p (drop i xs) ≡ list_any p xs → true ≡ list_any p xs
   any_here p xs i x e h before = sym (ap (λ b. b || list_any p (drop (i + 1) xs)) h) ∙ sym (ap (list_any p) (drop_here xs i x e)) ∙ before
@@ -53,13 +44,6 @@ copy_next m copy new i x h e before now = now ∙ ap (λ l. l ++ x ∷ []) befor
 
 -- ---- deltas
 
-with_delta-parts : (d : Delta) (ds : List Delta) → with_delta d [] ++ ds ≡ with_delta d ds
-with_delta-parts d ds = by (nat_lt 0 (length (d.gained ++ d.lost)))
-  where
-    by : (b : Bool) → cond b (d ∷ []) [] ++ ds ≡ cond b (d ∷ ds) ds
-    by true = refl
-    by false = refl
-
 from_here : {X : Type 0} (xs : List X) (i : ℕ) (y : X) → i < length xs → y ≡ get_or xs i y → drop i xs ≡ y ∷ drop (i + 1) xs
 from_here xs i y h e = drop_more xs i y h ∙ ap (λ z. z ∷ drop (i + 1) xs) (sym e)
 
@@ -74,31 +58,10 @@ deltas_next before after deltas new i b a gained lost hb ha eb ea g l so now =
     let rest : List Delta = deltas_from (i + 1) (drop (i + 1) before) (drop (i + 1) after) in
     let step : deltas_from i (drop i before) (drop i after) ≡ with_delta e (deltas_from (suc i) (drop (i + 1) before) (drop (i + 1) after)) =
     ap (λ r. deltas_from i r (drop i after)) (from_here before i b hb eb) ∙ ap (deltas_from i (b ∷ drop (i + 1) before)) (from_here after i a ha ea) in
-    ap (λ r. r ++ rest) now ∙ append_assoc deltas (with_delta d []) rest ∙ ap (λ r. deltas ++ r) (with_delta-parts d rest)
+    ap (λ r. r ++ rest) now ∙ append_assoc deltas (with_delta d []) rest ∙ ap (λ r. deltas ++ r) (sym (with_delta-append d [] rest))
     ∙ ap (λ x. deltas ++ with_delta x rest) is
     ∙ ap (λ n. deltas ++ with_delta e (deltas_from n (drop (i + 1) before) (drop (i + 1) after))) (omega arith)
     ∙ ap (λ r. deltas ++ r) (sym step) ∙ so
-
-abbrev IsBelow : ℕ → Delta → Type 0
-IsBelow n d = d.pattern < n
-
-below_weaker : (n : ℕ) (ds : List Delta) → AllByRecursion (IsBelow n) ds → AllByRecursion (IsBelow (n + 1)) ds
-below_weaker n [] a = tt
-below_weaker n (d ∷ ds) a = (omega arith, below_weaker n ds a.1)
-
-below_append : (n : ℕ) (ds es : List Delta) → AllByRecursion (IsBelow n) ds → AllByRecursion (IsBelow n) es → AllByRecursion (IsBelow n) (ds ++ es)
-below_append n [] es a b = b
-below_append n (d ∷ ds) es a b = (a.0, below_append n ds es a.1 b)
-
-below_one : (n : ℕ) (d : Delta) → d.pattern < n → AllByRecursion (IsBelow n) (with_delta d [])
-below_one n d h = by (nat_lt 0 (length (d.gained ++ d.lost)))
-  where
-    by : (b : Bool) → AllByRecursion (IsBelow n) (cond b (d ∷ []) [])
-    by true = (h, tt)
-    by false = tt
-
-pub below_next : (n : ℕ) (ds new : List Delta) (d : Delta) → d.pattern ≡ n → AllByRecursion (λ (e : Delta). e.pattern < n) ds → new ≡ ds ++ with_delta d [] → AllByRecursion (λ (e : Delta). e.pattern < n + 1) new
-below_next n ds new d is a now = rw now (below_append (n + 1) ds (with_delta d []) (below_weaker n ds a) (below_one (n + 1) d (omega arith)))
 
 pub above_all : (n : ℕ) (ds : List Delta) (d : Delta) → d.pattern ≡ n → AllByRecursion (λ (e : Delta). e.pattern < n) ds → AllByRecursion (λ (e : Delta). e.pattern < d.pattern) ds
 above_all n ds d is a = rw is a

@@ -1,8 +1,7 @@
 //! The embeddings of all patterns, and what differs between two graphs.
-ghost use Rattle.std.specs.Prelude.{◌≡◌, [], ◌∷◌, ◌++◌, length, nat_lt, IfOk, OnOk};
+ghost use Rattle.std.specs.Prelude.{◌≡◌, [], ◌∷◌, ◌++◌, length, IfOk, OnOk};
 ghost use Rattle.std.specs.List.{list_any};
 ghost use Rattle.flux_model.specs.Change.{same_map, without};
-ghost use Rattle.flux_model.specs.Deltas.{IsAbove, with_delta};
 ghost use Rattle.watch_cli.specs.Deltas.{embeddings_of, deltas_from};
 
 use flux_model::{Delta, Deltas, Map, Maps, Patterns};
@@ -39,27 +38,9 @@ pub fn changes(alloc: Global, before: &[Maps], after: &[Maps]) -> Result<Deltas,
             gained,
             lost,
         };
-        add_delta(&mut deltas, delta)?;
+        deltas.add_unless_empty(delta)?;
     }
     Ok(deltas)
-}
-
-/// Adds the delta, where it has a map.
-fn add_delta(deltas: &mut Deltas, delta: Delta) -> Result<(), AllocError>
-    requires { IsAbove deltas.old delta }
-    ensures { OnOk result (deltas.new ≡ deltas.old ++ with_delta delta []) }
-{
-    if has_map(&delta) {
-        deltas.add(delta)?;
-    }
-    Ok(())
-}
-
-/// Whether something was gained or lost.
-fn has_map(delta: &Delta) -> bool
-    ensures { result ≡ nat_lt 0 (length (delta.now.gained ++ delta.now.lost)) }
-{
-    delta.gained.len() > 0 || delta.lost.len() > 0
 }
 
 /// The maps that are not among the others.
