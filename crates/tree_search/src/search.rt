@@ -6,7 +6,7 @@ ghost use Rattle.flux_model.specs.Exact.{IsExact};
 ghost use Rattle.flux_model.specs.Partial.{id_of};
 ghost use Rattle.flux_model.specs.Pattern.{vertex_count};
 ghost use Rattle.flux_model.specs.States.{joined, is_explicit};
-ghost use Rattle.flux_model.specs.Tree.{BelongsTo, edge_at, link_at, is_child};
+ghost use Rattle.flux_model.specs.Tree.{BelongsTo, edge_at, link_at};
 ghost use Rattle.flux_model.specs.Order.{are_neighbours};
 ghost use Rattle.match_order.specs.Whole.{vertices, IsOrderOf};
 ghost use Rattle.tree_search.specs.Given.{IsReady, IsGiven, IsRowAt, may_have, edge_of, edge_between};
@@ -162,19 +162,11 @@ fn edge_between<'a>(
     requires joined { IsTrue (are_neighbours tree.now w anchor) }
     ensures { result.now ≡ edge_at pattern.now (edge_between tree.now w anchor) }
 {
-    if is_child(tree, anchor, w) {
+    if tree.is_child(anchor, w) {
         edge_above(pattern, tree, w)
     } else {
         edge_above(pattern, tree, anchor)
     }
-}
-
-/// Whether vertex `u` hangs from vertex `parent`.
-fn is_child(tree: &QueryTree, parent: usize, u: usize) -> bool
-    requires { u < length tree.now.links }
-    ensures { result ≡ is_child tree.now parent u }
-{
-    tree.parent(u).is_some_and(|link| link.parent == parent)
 }
 
 /// The edge by which vertex `u` hangs, which has a link.
