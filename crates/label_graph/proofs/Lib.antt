@@ -12,6 +12,7 @@ pub mod EdgeLemmas
 pub mod SameLemmas
 pub mod RowLemmas
 pub mod ReadLemmas
+pub mod NumberLemmas
 pub mod SetNameLemmas
 pub mod VertexLemmas
 pub mod VertexNodeLemmas

@@ -1,4 +1,5 @@
 pub mod Rows
+pub mod Numbers
 pub mod Held
 pub mod Changes
 pub mod Places

@@ -1,13 +1,15 @@
 //! `HoldGraph`: what a store means.
-ghost use Rattle.std.specs.Prelude.{◌≡◌, ℕ, List, length, count_by, ◌==◌, IsTrue, IsPermutation};
+ghost use Rattle.std.specs.Prelude.{◌≡◌, ℕ, List, Option, length, count_by, ◌==◌, IsTrue, IfNone, IsPermutation};
 ghost use Rattle.flux_model.specs.Graph.{Graph, ids, has_vertex};
 ghost use Rattle.flux_model.specs.declared.graph.Triple.{Triple};
 ghost use Rattle.flux_model.specs.declared.limits.Limits.{Limits};
 ghost use Rattle.label_graph.specs.Rows.{triples_from, triples_to};
+ghost use Rattle.label_graph.specs.Numbers.{IsNumberOf, LacksLabel};
 ghost use Rattle.label_graph.specs.Held.{IsHeld};
 ghost use Rattle.label_graph.specs.declared.spot.Spot.{Spot};
 
 use crate::spot::Spot;
+use flux_model::Text;
 
 /// A store of a graph that is kept under limits.
 ///
@@ -34,6 +36,9 @@ pub trait HoldGraph: Drop {
 
     /// It is a place of the in row of a vertex, or its end.
     ghost is_in_place: { Self → ℕ → Spot → Type 0 };
+
+    /// The text that a number of a label stands for, if it stands for one. It is so as long as the graph is unchanged.
+    ghost label_text: { Self → ℕ → Option (List ℕ) };
 
     /// How many vertices there are.
     fn vertex_count(&self) -> u64
@@ -67,4 +72,9 @@ pub trait HoldGraph: Drop {
         requires { IsTrue (has_vertex (graph self.now) v) }
         ensures place { is_in_place self.now v result }
         ensures all { IsPermutation (ins_from self.now v result) (triples_to (graph self.now) v) };
+
+    /// The number of a label, or `None` where no triple has the label. A number may stand for a label that no triple has.
+    fn label_number(&self, label: &Text) -> Option<u32>
+        ensures number { IsNumberOf (label_text self.now) label.now result }
+        ensures absent { IfNone result (LacksLabel label.now (graph self.now).triples) };
 }

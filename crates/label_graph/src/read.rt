@@ -8,11 +8,16 @@ use crate::hold::HoldGraph;
 use crate::spot::Spot;
 use flux_model::{Labels, Ledger, Steps, Text};
 
-/// What a row has at a place: the label and the other end of a triple, and where the row goes on.
+/// What a row has at a place of a triple.
 #[derive(Drop)]
 pub struct Turn<'a> {
+    /// The label.
     pub label: &'a Text,
+    /// The number that the store has for the label.
+    pub number: u32,
+    /// The other end.
     pub other: u32,
+    /// Where the row goes on.
     pub next: Spot,
 }
 
@@ -52,6 +57,7 @@ pub trait ReadGraph<L: Ledger>: HoldGraph {
         requires stands { IsTrue (has_vertex (Self.graph self.now) v) }
         requires place { Self.is_out_place self.now v at }
         ensures next { IfSome result (λ t. Self.is_out_place self.now v t.next) }
+        ensures number { IfSome result (λ t. Self.label_text self.now t.number ≡ Some t.label.now) }
         ensures end { IfSome result (λ t. IsTrue (has_vertex (Self.graph self.now) t.other)) }
         ensures turn { MatchOption result (Self.outs_from self.now v at ≡ [])
             (λ t. Self.outs_from self.now v at ≡ record { src = v; label = t.label.now; dst = t.other } ∷ Self.outs_from self.now v t.next) }
@@ -62,6 +68,7 @@ pub trait ReadGraph<L: Ledger>: HoldGraph {
         requires stands { IsTrue (has_vertex (Self.graph self.now) v) }
         requires place { Self.is_in_place self.now v at }
         ensures next { IfSome result (λ t. Self.is_in_place self.now v t.next) }
+        ensures number { IfSome result (λ t. Self.label_text self.now t.number ≡ Some t.label.now) }
         ensures end { IfSome result (λ t. IsTrue (has_vertex (Self.graph self.now) t.other)) }
         ensures turn { MatchOption result (Self.ins_from self.now v at ≡ [])
             (λ t. Self.ins_from self.now v at ≡ record { src = t.other; label = t.label.now; dst = v } ∷ Self.ins_from self.now v t.next) }

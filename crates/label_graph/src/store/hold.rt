@@ -2,6 +2,7 @@
 ghost use Rattle.std.specs.Prelude.{◌≡◌, ◌≤◌, Some, nat_eq, length, IsTrue};
 ghost use Rattle.std.specs.Map.{lookup, keys_of};
 ghost use Rattle.flux_model.specs.Graph.{has_vertex};
+ghost use Rattle.label_graph.specs.Names.{text_at};
 ghost use Rattle.label_graph.specs.Places.{outs, ins};
 ghost use Rattle.label_graph.specs.Seen.{graph_in, outs_in, ins_in};
 
@@ -9,6 +10,7 @@ use crate::hold::HoldGraph;
 use crate::link::Node;
 use crate::spot::Spot;
 use crate::store::LabelGraph;
+use flux_model::Text;
 
 impl LabelGraph {
     /// What is kept of `v`, which has to be a vertex.
@@ -34,6 +36,8 @@ impl HoldGraph for LabelGraph {
     ghost is_out_place = { λ s v at. at.place ≤ length (outs s.nodes.entries v) };
 
     ghost is_in_place = { λ s v at. at.place ≤ length (ins s.nodes.entries v) };
+
+    ghost label_text = { λ s. text_at s.names };
 
     fn vertex_count(&self) -> u64 {
         self.nodes.len() as u64
@@ -67,5 +71,9 @@ impl HoldGraph for LabelGraph {
         // For the proof: no two names are the same.
         let _names = self.names.len();
         Spot { place: 0 }
+    }
+
+    fn label_number(&self, label: &Text) -> Option<u32> {
+        self.names.find(label)
     }
 }

@@ -39,6 +39,7 @@ impl<L: Ledger> ReadGraph<L> for LabelGraph {
         let turn = self.node(v).outs.get(at.place)?;
         Some(Turn {
             label: self.names.text(turn.label),
+            number: turn.label,
             other: turn.other,
             next: Spot {
                 place: at.place + 1,
@@ -51,6 +52,7 @@ impl<L: Ledger> ReadGraph<L> for LabelGraph {
         let turn = self.node(v).ins.get(at.place)?;
         Some(Turn {
             label: self.names.text(turn.label),
+            number: turn.label,
             other: turn.other,
             next: Spot {
                 place: at.place + 1,

@@ -1,0 +1,12 @@
+-- What the numbers of labels stand for.
+use Rattle.std.specs.Prelude.{◌≡◌, ◌↔◌, ℕ, List, [], Option, Some, filter}
+use Rattle.std.specs.Str.{bytes_eq}
+use Rattle.flux_model.specs.declared.graph.Triple.{Triple}
+
+-- by the texts that numbers stand for, it is the one number of this text, or None where no number stands for it
+abbrev pub IsNumberOf : (ℕ → Option (List ℕ)) → List ℕ → Option ℕ → Type 0
+IsNumberOf texts text number = (n : ℕ) → (texts n ≡ Some text) ↔ (number ≡ Some n)
+
+-- no triple of the list has the label
+abbrev pub LacksLabel : List ℕ → List Triple → Type 0
+LacksLabel label ts = filter (λ (t : Triple). bytes_eq label t.label) ts ≡ []
