@@ -2,6 +2,7 @@
 ghost use Rattle.std.specs.Prelude.{◌≡◌, ◌+◌, ◌<◌, [], ◌∷◌, Some, length, slice_get, IsTrue, IfSome, MatchOption};
 ghost use Rattle.flux_model.specs.Graph.{has_vertex, has_triple};
 ghost use Rattle.flux_model.specs.Pattern.{fits_labels};
+ghost use Rattle.label_graph.specs.Numbers.{has_triple_by};
 ghost use Rattle.label_graph.specs.Rows.{vertex_at};
 
 use crate::hold::HoldGraph;
@@ -50,6 +51,11 @@ pub trait ReadGraph<L: Ledger>: HoldGraph {
     /// Whether the triple of these parts stands, for any ids.
     fn has_edge(&self, src: u32, label: &Text, dst: u32, steps: &mut Steps<L>) -> bool
         ensures value { result ≡ has_triple (Self.graph self.now) (record { src = src; label = label.now; dst = dst }) }
+        ensures step { steps.new ≡ steps.old + 1 };
+
+    /// Whether the triple of these ends stands with the label of this number, for any ids and any number.
+    fn has_edge_by(&self, src: u32, number: u32, dst: u32, steps: &mut Steps<L>) -> bool
+        ensures value { result ≡ has_triple_by (Self.graph self.now) (Self.label_text self.now number) src dst }
         ensures step { steps.new ≡ steps.old + 1 };
 
     /// What the out row of the vertex `v` has at the place `at`, or `None` at the row's end. The other end is a vertex.

@@ -34,6 +34,17 @@ impl<L: Ledger> ReadGraph<L> for LabelGraph {
         }
     }
 
+    fn has_edge_by(&self, src: u32, number: u32, dst: u32, steps: &mut Steps<L>) -> bool {
+        steps.tick();
+        // For the proof: no two names are the same.
+        let _names = self.names.len();
+        self.places.contains_key(&Link {
+            src,
+            label: number,
+            dst,
+        })
+    }
+
     fn out_at(&self, v: u32, at: Spot, steps: &mut Steps<L>) -> Option<Turn<'_>> {
         steps.tick();
         let turn = self.node(v).outs.get(at.place)?;
