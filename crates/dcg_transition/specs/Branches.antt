@@ -21,7 +21,7 @@ pub record IsBranchOf (q : PatternGraph) (t : QueryTree) (b : Branch) : Type 0 w
 
 -- the row of v along it
 abbrev pub row_along : Branch → ℕ → GraphRow
-row_along b v = record { vertex = v; direction = b.direction; label = b.label }
+row_along b v = record { vertex = v; direction = b.direction; label = b.label; label_number = b.label_number }
 
 -- the other ends of the triples of v along it
 abbrev pub ends : Branch → Graph → ℕ → List ℕ

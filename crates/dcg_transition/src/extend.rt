@@ -5,6 +5,7 @@ ghost use Rattle.flux_model.specs.Graph.{has_vertex};
 ghost use Rattle.flux_model.specs.Tree.{BelongsTo};
 ghost use Rattle.flux_model.specs.States.{joined};
 ghost use Rattle.flux_model.specs.Exact.{row_at, IsExact};
+ghost use Rattle.label_graph.specs.Numbers.{IsNumberOf};
 ghost use Rattle.query_tree.specs.Depth.{depth};
 ghost use Rattle.dcg_transition.specs.Branches.{opens_from};
 ghost use Rattle.dcg_transition.specs.Filled.{is_open, HasMoreOuts, HasRoomFor};
@@ -75,7 +76,7 @@ fn extend_to<G: ReadGraph<L>, L: Ledger>(
     requires counted { IsCountedTo pattern.now tree.now (G.graph graph.now) (depth tree.now u) u dcg.old }
     ensures { IsCountedTo pattern.now tree.now (G.graph graph.now) (depth tree.now u) (u + 1) dcg.new }
 {
-    let branch = Branch::of(pattern, tree, u);
+    let branch = Branch::of(graph, pattern, tree, u);
     for i in 0..graph.vertex_count() {
         let v = graph.vertex_at(i, steps);
         extend_from(graph, &branch, v, dcg, steps);
@@ -91,6 +92,7 @@ fn extend_from<G: ReadGraph<L>, L: Ledger>(
     steps: &mut Steps<L>,
 )
     requires stands { IsTrue (has_vertex (G.graph graph.now) v) }
+    requires label_number { IsNumberOf (G.label_text graph.now) branch.now.label.now branch.now.label_number }
     requires whole { dcg.old.is_broken ≡ false }
     requires parent { branch.now.link.parent < length dcg.old.children }
     requires child { branch.now.child < length dcg.old.children }
@@ -114,6 +116,7 @@ fn extend_ends<G: ReadGraph<L>, L: Ledger>(
     steps: &mut Steps<L>,
 )
     requires stands { IsTrue (has_vertex (G.graph graph.now) v) }
+    requires label_number { IsNumberOf (G.label_text graph.now) branch.now.label.now branch.now.label_number }
     requires whole { dcg.old.is_broken ≡ false }
     requires parent { branch.now.link.parent < length dcg.old.children }
     requires child { branch.now.child < length dcg.old.children }

@@ -1,6 +1,8 @@
 //! `GraphRow`: a row of a graph vertex, as it is walked for one label.
-ghost use Rattle.std.specs.Prelude.{◌≡◌, ◌+◌, ◌<◌, ◌≤◌, [], ◌∷◌, length, IsTrue, IfSome, MatchOption, IsPermutation};
+ghost use Rattle.std.specs.Prelude.{◌≡◌, ◌+◌, ◌<◌, ◌≤◌, [], ◌∷◌, Some, length, IsTrue, IfSome, MatchOption, IsPermutation};
+ghost use Rattle.std.specs.Str.{bytes_eq};
 ghost use Rattle.flux_model.specs.Graph.{has_vertex};
+ghost use Rattle.label_graph.specs.Numbers.{IsNumberOf};
 ghost use Rattle.dcg_transition.specs.Ends.{triple_of, whole_row, row_from, ends_from, IsPlaceOf};
 
 use crate::direction::Direction;
@@ -18,6 +20,8 @@ pub struct GraphRow<'a> {
     pub direction: Direction,
     /// The label of the triples that count.
     pub label: &'a Text,
+    /// The number that the graph has for the label.
+    pub label_number: Option<u32>,
 }
 
 impl<'a> GraphRow<'a> {
@@ -43,6 +47,7 @@ impl<'a> GraphRow<'a> {
         steps: &mut Steps<L>,
     ) -> Option<(u32, Spot)>
         requires stands { IsTrue (has_vertex (G.graph graph.now) self.now.vertex) }
+        requires number { IsNumberOf (G.label_text graph.now) self.now.label.now self.now.label_number }
         requires place { IsPlaceOf (G.is_out_place graph.now) (G.is_in_place graph.now) self.now from }
         ensures next { IfSome result (λ t. IsPlaceOf (G.is_out_place graph.now) (G.is_in_place graph.now) self.now t.1) }
         ensures end { IfSome result (λ t. IsTrue (has_vertex (G.graph graph.now) t.0)) }
@@ -55,11 +60,20 @@ impl<'a> GraphRow<'a> {
         let mut at = from;
         while let Some(turn) = self.turn(graph, at, steps) {
             at = turn.next;
-            if *self.label == *turn.label {
+            if self.has_label(graph, &turn) {
                 return Some((turn.other, at));
             }
         }
         None
+    }
+
+    /// Whether what the row has at a place has the label.
+    fn has_label<G: HoldGraph>(&self, _graph: &G, turn: &Turn<'_>) -> bool
+        requires number { IsNumberOf (G.label_text _graph.now) self.now.label.now self.now.label_number }
+        requires turn { G.label_text _graph.now turn.now.number ≡ Some turn.now.label.now }
+        ensures { result ≡ bytes_eq self.now.label.now turn.now.label.now }
+    {
+        self.label_number == Some(turn.number)
     }
 
     /// What the row has at a place, of any label, or `None` at its end.
@@ -72,6 +86,7 @@ impl<'a> GraphRow<'a> {
         requires stands { IsTrue (has_vertex (G.graph graph.now) self.now.vertex) }
         requires place { IsPlaceOf (G.is_out_place graph.now) (G.is_in_place graph.now) self.now at }
         ensures next { IfSome result (λ t. IsPlaceOf (G.is_out_place graph.now) (G.is_in_place graph.now) self.now t.next) }
+        ensures number { IfSome result (λ t. G.label_text graph.now t.number ≡ Some t.label.now) }
         ensures end { IfSome result (λ t. IsTrue (has_vertex (G.graph graph.now) t.other)) }
         ensures turn { MatchOption result (row_from (G.outs_from graph.now) (G.ins_from graph.now) self.now at ≡ [])
             (λ t. row_from (G.outs_from graph.now) (G.ins_from graph.now) self.now at

@@ -4,6 +4,7 @@ ghost use Rattle.std.specs.FinMap.{empty};
 ghost use Rattle.flux_model.specs.Graph.{has_vertex};
 ghost use Rattle.flux_model.specs.Tree.{BelongsTo};
 ghost use Rattle.flux_model.specs.States.{joined};
+ghost use Rattle.label_graph.specs.Numbers.{IsNumberOf};
 ghost use Rattle.query_tree.specs.Depth.{depth};
 ghost use Rattle.dcg_transition.specs.Branches.{joins_to, joins_from, HasRoomToJoin};
 ghost use Rattle.dcg_transition.specs.Filled.{child_counts, AreBegun, HasMoreIns};
@@ -100,7 +101,7 @@ fn reach_vertex<G: ReadGraph<L>, L: Ledger>(
     requires reached { IsReachedTo pattern.now tree.now (G.graph graph.now) (depth tree.now u) u dcg.old }
     ensures { OnOk result (IsReachedTo pattern.now tree.now (G.graph graph.now) (depth tree.now u) (u + 1) dcg.new) }
 {
-    let branch = Branch::of(pattern, tree, u);
+    let branch = Branch::of(graph, pattern, tree, u);
     for i in 0..graph.vertex_count() {
         let v = graph.vertex_at(i, steps);
         reach_from(graph, &branch, v, dcg, steps)?;
@@ -117,6 +118,7 @@ fn reach_from<G: ReadGraph<L>, L: Ledger>(
     steps: &mut Steps<L>,
 ) -> Result<(), AllocError>
     requires stands { IsTrue (has_vertex (G.graph graph.now) v) }
+    requires label_number { IsNumberOf (G.label_text graph.now) branch.now.label.now branch.now.label_number }
     requires whole { dcg.old.is_broken ≡ false }
     requires parent { branch.now.link.parent < length dcg.old.children }
     requires child { branch.now.child < length dcg.old.children }
@@ -139,6 +141,7 @@ fn reach_ends<G: ReadGraph<L>, L: Ledger>(
     steps: &mut Steps<L>,
 ) -> Result<(), AllocError>
     requires stands { IsTrue (has_vertex (G.graph graph.now) v) }
+    requires label_number { IsNumberOf (G.label_text graph.now) branch.now.label.now branch.now.label_number }
     requires whole { dcg.old.is_broken ≡ false }
     requires child { branch.now.child < length dcg.old.children }
     requires begun { AreBegun dcg.old branch.now.child }

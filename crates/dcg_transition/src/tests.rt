@@ -8,7 +8,7 @@ use flux_model::State::{Explicit, Implicit, Null};
 use flux_model::{
     Cards, Labels, Limits, Mode, Pattern, PatternEdge, State, Steps, Tally, Text, Triple,
 };
-use label_graph::{KeepGraph, LabelGraph, ReadGraph};
+use label_graph::{HoldGraph, KeepGraph, LabelGraph, ReadGraph};
 use query_tree::QueryTree;
 use std::alloc::{AllocError, Global};
 use std::process::Abort;
@@ -229,6 +229,7 @@ fn only_end(
         vertex: 1,
         direction,
         label: &label,
+        label_number: graph.label_number(&label),
     };
     let mut steps = Steps::new(Tally::new());
     let found = row.next(graph, row.first(graph), &mut steps);

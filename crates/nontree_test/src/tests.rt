@@ -2,7 +2,7 @@
 ghost use Rattle.std.specs.Prelude.{◌≡◌, codes, IfOk};
 ghost use Rattle.flux_model.specs.Tree.{BelongsTo};
 
-use crate::{free, joins};
+use crate::{free, joins, label_numbers};
 use flux_model::{
     Cards, Labels, Limits, Mode, Partial, Pattern, PatternEdge, Steps, Tally, Text, Triple,
 };
@@ -78,12 +78,13 @@ type Given = (usize, u32);
 /// Whether a candidate joins beside what is given, and how many steps that takes.
 fn joined(
     rt: &impl Abort,
+    alloc: Global,
     pattern: &Pattern,
     tree: &QueryTree,
     graph: &LabelGraph,
     given: Given,
     candidate: Given,
-) -> (bool, u64)
+) -> Result<(bool, u64), AllocError>
     requires { BelongsTo pattern.now tree.now }
 {
     let (u, id) = given;
@@ -94,24 +95,36 @@ fn joined(
     partial.put(u, id);
     assert_eq!(rt; partial.get(w), None);
     let mut steps = Steps::new(Tally::new());
-    let joined = joins(pattern, tree, &partial, w, x, graph, &mut steps);
-    (joined, steps.ledger().read())
+    let numbers = label_numbers(alloc, pattern, graph)?;
+    let joined = joins(
+        pattern,
+        tree,
+        numbers.as_slice(),
+        &partial,
+        w,
+        x,
+        graph,
+        &mut steps,
+    );
+    Ok((joined, steps.ledger().read()))
 }
 
 /// Compares what is told of candidates, each beside another vertex that has an id.
 fn assert_joins(
     rt: &impl Abort,
+    alloc: Global,
     pattern: &Pattern,
     tree: &QueryTree,
     graph: &LabelGraph,
     cases: &[(Given, Given, (bool, u64))],
-)
+) -> Result<(), AllocError>
     requires { BelongsTo pattern.now tree.now }
 {
     for i in 0..cases.len() {
         let (given, candidate, answer) = cases[i];
-        assert_eq!(rt; joined(rt, pattern, tree, graph, given, candidate), answer);
+        assert_eq!(rt; joined(rt, alloc, pattern, tree, graph, given, candidate)?, answer);
     }
+    Ok(())
 }
 
 #[test]
@@ -132,7 +145,7 @@ fn the_edge_that_closes_a_triangle_is_asked(rt: HostRuntime) -> Result<(), Fail>
         ((2, 1), (1, 3), (true, 0)),
         ((2, 1), (0, 3), (true, 0)),
     ];
-    assert_joins(&rt, &pattern, &tree, &graph, &cases);
+    assert_joins(&rt, alloc, &pattern, &tree, &graph, &cases)?;
     Ok(())
 }
 
@@ -148,7 +161,7 @@ fn a_loop_is_asked_of_its_vertex_alone(rt: HostRuntime) -> Result<(), Fail> {
         ((0, 1), (1, 1), (false, 1)),
         ((1, 1), (0, 1), (true, 0)),
     ];
-    assert_joins(&rt, &pattern, &tree, &graph, &cases);
+    assert_joins(&rt, alloc, &pattern, &tree, &graph, &cases)?;
     Ok(())
 }
 

@@ -6,9 +6,11 @@ ghost use Rattle.flux_model.specs.Exact.{IsExact};
 ghost use Rattle.flux_model.specs.Partial.{id_of};
 ghost use Rattle.flux_model.specs.Pattern.{vertex_count};
 ghost use Rattle.flux_model.specs.States.{joined, is_explicit};
-ghost use Rattle.flux_model.specs.Tree.{BelongsTo, edge_at, link_at};
+ghost use Rattle.flux_model.specs.Tree.{BelongsTo, link_at};
 ghost use Rattle.flux_model.specs.Order.{are_neighbours};
+ghost use Rattle.label_graph.specs.Numbers.{IsNumberOf};
 ghost use Rattle.match_order.specs.Whole.{vertices, IsOrderOf};
+ghost use Rattle.nontree_test.specs.Numbered.{AreNumbersOf};
 ghost use Rattle.tree_search.specs.Given.{IsReady, IsGiven, IsRowAt, may_have, edge_of, edge_between};
 ghost use Rattle.tree_search.specs.Spent.{MeetsNoDeadEnd, test_cost, members_cost};
 ghost use Rattle.tree_search.specs.Members.{members_from, ids_of, GrewByAll, GrewBySome};
@@ -16,10 +18,10 @@ ghost use Rattle.tree_search.specs.Members.{members_from, ids_of, GrewByAll, Gre
 use crate::found::Found;
 use dcg_store::Dcg;
 use dcg_transition::{Direction, GraphRow};
-use flux_model::{Ledger, Partial, Pattern, PatternEdge, State, Steps};
+use flux_model::{Ledger, Partial, Pattern, State, Steps};
 use label_graph::{HoldGraph, ReadGraph};
 use match_order::{SearchOrder, order};
-use nontree_test::{free, joins};
+use nontree_test::{free, joins, label_numbers};
 use query_tree::QueryTree;
 use std::alloc::{AllocError, Global};
 
@@ -52,6 +54,7 @@ pub fn all<G: ReadGraph<L>, F: Found, L: Ledger>(
         dcg,
         graph,
         order: order_by_live(alloc, pattern, tree, dcg)?,
+        numbers: label_numbers(alloc, pattern, graph)?,
     };
     let root = tree.root();
     let mut partial = Partial::new(pattern.vertex_count());
@@ -95,6 +98,8 @@ struct Search<'a, G> {
     dcg: &'a Dcg,
     graph: &'a G,
     order: SearchOrder,
+    /// The numbers that the graph has for the labels of the pattern's edges.
+    numbers: Vec<Option<u32>>,
 }
 
 /// Hands over every embedding that has the ids of the first `k` vertices of the order.
@@ -106,6 +111,7 @@ fn extend<G: ReadGraph<L>, F: Found, L: Ledger>(
     steps: &mut Steps<L>,
 ) -> Result<(), AllocError>
     requires ready { IsReady search.now.pattern.now search.now.tree.now search.now.dcg.now (G.graph search.now.graph.now) search.now.order }
+    requires numbers { AreNumbersOf (G.label_text search.now.graph.now) (G.graph search.now.graph.now) search.now.pattern.now search.now.numbers.items }
     requires some { 1 ≤ k }
     requires few { k ≤ length (vertices search.now.order) }
     requires given { IsGiven search.now.pattern.now search.now.tree.now (G.graph search.now.graph.now) search.now.order k partial.old }
@@ -134,33 +140,33 @@ fn extend<G: ReadGraph<L>, F: Found, L: Ledger>(
 /// The row of the id of the anchor at place `k`, in the direction in which the tree edge leads to the vertex.
 fn row_at<'a, G: HoldGraph>(search: &'a Search<'_, G>, k: usize, partial: &Partial) -> GraphRow<'a>
     requires ready { IsReady search.now.pattern.now search.now.tree.now search.now.dcg.now (G.graph search.now.graph.now) search.now.order }
+    requires numbers { AreNumbersOf (G.label_text search.now.graph.now) (G.graph search.now.graph.now) search.now.pattern.now search.now.numbers.items }
     requires some { 1 ≤ k }
     requires few { k < length (vertices search.now.order) }
     requires given { IsGiven search.now.pattern.now search.now.tree.now (G.graph search.now.graph.now) search.now.order k partial.now }
-    ensures { IsRowAt search.now.pattern.now search.now.tree.now search.now.order k partial.now result.vertex result.direction result.label.now }
+    ensures row { IsRowAt search.now.pattern.now search.now.tree.now search.now.order k partial.now result.vertex result.direction result.label.now }
+    ensures number { IsNumberOf (G.label_text search.now.graph.now) result.label.now result.label_number }
 {
     let w = search.order.vertex(k);
     let anchor = search.order.anchor(k);
-    let edge = edge_between(search.pattern, search.tree, w, anchor);
+    let number = edge_between(search.pattern, search.tree, w, anchor);
+    let edge = search.pattern.edge(number);
     GraphRow {
         vertex: partial.get(anchor).unwrap(),
         direction: Direction::to(edge, w),
         label: &edge.label,
+        label_number: search.numbers[number],
     }
 }
 
-/// The edge of the tree between two vertices, one of which hangs from the other.
-fn edge_between<'a>(
-    pattern: &'a Pattern,
-    tree: &QueryTree,
-    w: usize,
-    anchor: usize,
-) -> &'a PatternEdge
+/// The number of the edge of the tree between two vertices, one of which hangs from the other.
+fn edge_between(pattern: &Pattern, tree: &QueryTree, w: usize, anchor: usize) -> usize
     requires belongs { BelongsTo pattern.now tree.now }
     requires vertex { w < length tree.now.links }
     requires anchor { anchor < length tree.now.links }
     requires joined { IsTrue (are_neighbours tree.now w anchor) }
-    ensures { result.now ≡ edge_at pattern.now (edge_between tree.now w anchor) }
+    ensures number { result ≡ edge_between tree.now w anchor }
+    ensures within { result < length pattern.now.edges }
 {
     if tree.is_child(anchor, w) {
         edge_above(pattern, tree, w)
@@ -169,15 +175,16 @@ fn edge_between<'a>(
     }
 }
 
-/// The edge by which vertex `u` hangs, which has a link.
-fn edge_above<'a>(pattern: &'a Pattern, tree: &QueryTree, u: usize) -> &'a PatternEdge
-    requires belongs { BelongsTo pattern.now tree.now }
+/// The number of the edge by which vertex `u` hangs, which has a link.
+fn edge_above(_pattern: &Pattern, tree: &QueryTree, u: usize) -> usize
+    requires belongs { BelongsTo _pattern.now tree.now }
     requires vertex { u < length tree.now.links }
     requires link { IsSome (link_at tree.now u) }
-    ensures { result.now ≡ edge_at pattern.now (edge_of (link_at tree.now u)) }
+    ensures number { result ≡ edge_of (link_at tree.now u) }
+    ensures within { result < length _pattern.now.edges }
 {
     let link = tree.parent(u).unwrap();
-    pattern.edge(link.edge)
+    link.edge
 }
 
 /// Whether the vertex `w`, which has no id yet, may have the id `x`.
@@ -189,6 +196,7 @@ fn may_have<G: ReadGraph<L>, L: Ledger>(
     steps: &mut Steps<L>,
 ) -> bool
     requires ready { IsReady search.now.pattern.now search.now.tree.now search.now.dcg.now (G.graph search.now.graph.now) search.now.order }
+    requires numbers { AreNumbersOf (G.label_text search.now.graph.now) (G.graph search.now.graph.now) search.now.pattern.now search.now.numbers.items }
     requires places { length partial.now ≡ vertex_count search.now.pattern.now }
     requires vertex { w < length partial.now }
     requires open { slice_get partial.now w ≡ Some None }
@@ -200,6 +208,7 @@ fn may_have<G: ReadGraph<L>, L: Ledger>(
         && joins(
             search.pattern,
             search.tree,
+            search.numbers.as_slice(),
             partial,
             w,
             x,

@@ -22,6 +22,11 @@ returns-in_err-order_by_live-clause-some g c =
     let list = g.F.Found.list in
     any_err c.from_residual.result (grew_by_none (list c.args.found.now) (list c.args.found.now) (embeddings c.args.pattern.now (g.G.HoldGraph.graph c.args.graph.now)) refl)
 
+pub returns-in_err-label_numbers-clause-some : goal.returns-in_err-label_numbers-clause-some
+returns-in_err-label_numbers-clause-some g c =
+    let list = g.F.Found.list in
+    any_err c.from_residual-in_err-label_numbers.result (grew_by_none (list c.args.found.now) (list c.args.found.now) (embeddings c.args.pattern.now (g.G.HoldGraph.graph c.args.graph.now)) refl)
+
 pub loop-i-init : goal.loop-i-init
 loop-i-init g c =
     let q = c.args.pattern.now in

@@ -1,22 +1,25 @@
-use Rattle.std.proofs.Common.{◌≡◌, Some, None, refl, sym, ap, subst, ◌∙◌, arith}
+use Rattle.std.proofs.Common.{◌≡◌, ℕ, [], Option, Some, None, refl, sym, ap, subst, ◌∙◌, arith}
 use Rattle.std.specs.Prelude.{IsSome}
+use Rattle.std.proofs.lemmas.List.{get_or_read}
 use Rattle.std.proofs.lemmas.Option.{get_or_from_slice_get}
 use Rattle.flux_model.specs.Partial.{id_of}
 use Rattle.flux_model.specs.Order.{are_neighbours}
 use Rattle.flux_model.specs.Tree.{edge_at}
+use Rattle.flux_model.specs.declared.pattern.PatternEdge.{PatternEdge}
+use Rattle.label_graph.specs.Numbers.{IsNumberOf}
 use Rattle.dcg_transition.specs.Ends.{direction_to}
 use Rattle.tree_search.specs.Given.{nth_vertex, nth_anchor, edge_between}
 use Rattle.tree_search.proofs.TieLemmas.{anchor_inside, anchor_beside, anchor_given}
 use Rattle.tree_search.proofs.search.row_at.Goals as goal
 
-pub edge_between-edge-requires-clause-anchor : goal.edge_between-edge-requires-clause-anchor
-edge_between-edge-requires-clause-anchor g c =
+pub edge_between-number-requires-clause-anchor : goal.edge_between-number-requires-clause-anchor
+edge_between-number-requires-clause-anchor g c =
     let s = c.args.search.now in
     let inside = anchor_inside s.pattern.now s.tree.now s.dcg.now (g.G.HoldGraph.graph s.graph.now) s.order c.requires.ready c.args.k c.requires.some c.requires.few in
     omega (arith, inside, c.anchor-anchor.ensures)
 
-pub edge_between-edge-requires-clause-joined : goal.edge_between-edge-requires-clause-joined
-edge_between-edge-requires-clause-joined g c =
+pub edge_between-number-requires-clause-joined : goal.edge_between-number-requires-clause-joined
+edge_between-number-requires-clause-joined g c =
     let s = c.args.search.now in
     (λ i. are_neighbours s.tree.now (c.vertex-w.ensures i) (c.anchor-anchor.ensures i))
     ∙ anchor_beside s.pattern.now s.tree.now s.dcg.now (g.G.HoldGraph.graph s.graph.now) s.order c.requires.ready c.args.k c.requires.some c.requires.few
@@ -35,16 +38,29 @@ unwrap-requires g c =
     let same : c.get.result ≡ Some v.0 = sym is ∙ ap (id_of c.args.partial.now) c.anchor-anchor.ensures ∙ v.1 in
     subst IsSome (sym same) refl
 
-pub returns : goal.returns
-returns g c =
+pub returns-clause-row : goal.returns-clause-row
+returns-clause-row g c =
     let s = c.args.search.now in
     let q = s.pattern.now in
     let t = s.tree.now in
     let is = get_or_from_slice_get c.args.partial.now c.anchor-anchor.result c.get.result None c.get.ensures in
-    let edge : c.edge_between-edge.result.now ≡ edge_at q (edge_between t (nth_vertex s.order c.args.k) (nth_anchor s.order c.args.k)) =
-    c.edge_between-edge.ensures ∙ (λ i. edge_at q (edge_between t (c.vertex-w.ensures i) (c.anchor-anchor.ensures i))) in
+    let found = get_or_from_slice_get q.edges c.edge_between-number.result c.edge-edge.result.now (record { tail = 0; label = []; head = 0 }) c.edge-edge.ensures.edge in
+    let edge : c.edge-edge.result.now ≡ edge_at q (edge_between t (nth_vertex s.order c.args.k) (nth_anchor s.order c.args.k)) =
+    sym found ∙ ap (edge_at q) (c.edge_between-number.ensures.number ∙ (λ i. edge_between t (c.vertex-w.ensures i) (c.anchor-anchor.ensures i))) in
     record {
       anchor = ap (id_of c.args.partial.now) (sym c.anchor-anchor.ensures) ∙ is ∙ c.unwrap.ensures;
       leads = c.to.ensures ∙ (λ i. direction_to (edge i) (c.vertex-w.ensures i));
       name = ap (λ e. e.label) edge;
     }
+
+pub returns-clause-number : goal.returns-clause-number
+returns-clause-number g c =
+    let s = c.args.search.now in
+    let q = s.pattern.now in
+    let n = c.edge_between-number.result in
+    let texts = g.G.HoldGraph.label_text s.graph.now in
+    let found = get_or_from_slice_get q.edges n c.edge-edge.result.now (record { tail = 0; label = []; head = 0 }) c.edge-edge.ensures.edge in
+    let read = get_or_read s.numbers.items n c.index.result.now (omega (arith, c.edge_between-number.ensures.within, c.requires.numbers.sized)) c.index.ensures None in
+    let P : PatternEdge → Type 0 = λ e. IsNumberOf texts e.label c.index.result.now in
+    let Q : Option ℕ → Type 0 = λ o. IsNumberOf texts (edge_at q n).label o in
+    subst P found (subst Q (sym read) (c.requires.numbers.each n c.edge_between-number.ensures.within).tells)

@@ -7,10 +7,10 @@ use Rattle.dcg_transition.specs.Ends.{direction_to}
 use Rattle.dcg_transition.proofs.branch.Branch.of.Goals as goal
 
 pub edge-edge-requires : goal.edge-edge-requires
-edge-edge-requires c = (c.requires.belongs.links c.args.u c.unwrap-link.result (sym c.parent.ensures.link ∙ c.unwrap-link.ensures)).edge
+edge-edge-requires g c = (c.requires.belongs.links c.args.u c.unwrap-link.result (sym c.parent.ensures.link ∙ c.unwrap-link.ensures)).edge
 
 pub returns-clause-branch : goal.returns-clause-branch
-returns-clause-branch c =
+returns-clause-branch g c =
     let q = c.args.pattern.now in
     let edge = get_or_from_slice_get q.edges c.unwrap-link.result.edge c.edge-edge.result.now (record { tail = 0; label = []; head = 0 }) c.edge-edge.ensures.edge in
     let link : link_at c.args.tree.now c.args.u ≡ Some c.unwrap-link.result = sym c.parent.ensures.link ∙ c.unwrap-link.ensures in
