@@ -1,5 +1,5 @@
 -- What a `LabelGraph` means: its graph and limits, and its rows.
-use Rattle.std.specs.Prelude.{ℕ, List, map}
+use Rattle.std.specs.Prelude.{◌≡◌, ℕ, List, Some, map, slice_get}
 use Rattle.std.specs.Map.{keys_of}
 use Rattle.flux_model.specs.Graph.{Graph}
 use Rattle.flux_model.specs.declared.graph.Triple.{Triple}
@@ -17,3 +17,7 @@ outs_in s v at = row_from s.names (out_link v) (outs s.nodes.entries v) at.place
 
 abbrev pub ins_in : LabelGraph → ℕ → Spot → List Triple
 ins_in s v at = row_from s.names (in_link v) (ins s.nodes.entries v) at.place
+
+-- the place is one of a row of v, or its end
+abbrev pub IsOfVertex : LabelGraph → ℕ → Spot → Type 0
+IsOfVertex s v at = slice_get (keys_of s.nodes.entries) at.node ≡ Some v

@@ -1,10 +1,10 @@
 //! The sizes and the rows of a `LabelGraph`.
-ghost use Rattle.std.specs.Prelude.{◌≡◌, ◌≤◌, Some, nat_eq, length, IsTrue};
+ghost use Rattle.std.specs.Prelude.{◌≡◌, ◌≤◌, Some, nat_eq, length, slice_get, IsTrue};
 ghost use Rattle.std.specs.Map.{lookup, keys_of};
 ghost use Rattle.flux_model.specs.Graph.{has_vertex};
 ghost use Rattle.label_graph.specs.Names.{text_at};
 ghost use Rattle.label_graph.specs.Places.{outs, ins};
-ghost use Rattle.label_graph.specs.Seen.{graph_in, outs_in, ins_in};
+ghost use Rattle.label_graph.specs.Seen.{graph_in, outs_in, ins_in, IsOfVertex};
 
 use crate::hold::HoldGraph;
 use crate::link::Node;
@@ -20,6 +20,22 @@ impl LabelGraph {
     {
         &self.nodes[&v]
     }
+
+    /// What is kept of the vertex `v`, by a place of one of its rows.
+    pub(super) fn node_at(&self, _v: u32, at: Spot) -> &Node
+        requires { IsOfVertex self.now _v at }
+        ensures { lookup (nat_eq _v) self.now.nodes.entries ≡ Some result.now }
+    {
+        self.nodes.get_index(at.node).unwrap().1
+    }
+
+    /// Where `v`, which has to be a vertex, stands among the vertices.
+    fn index(&self, v: u32) -> usize
+        requires { IsTrue (has_vertex (graph_in self.now) v) }
+        ensures { slice_get (keys_of self.now.nodes.entries) result ≡ Some v }
+    {
+        self.nodes.get_index_of(&v).unwrap()
+    }
 }
 
 impl HoldGraph for LabelGraph {
@@ -33,9 +49,9 @@ impl HoldGraph for LabelGraph {
 
     ghost ins_from = { ins_in };
 
-    ghost is_out_place = { λ s v at. at.place ≤ length (outs s.nodes.entries v) };
+    ghost is_out_place = { λ s v at. IsOfVertex s v at × (at.place ≤ length (outs s.nodes.entries v)) };
 
-    ghost is_in_place = { λ s v at. at.place ≤ length (ins s.nodes.entries v) };
+    ghost is_in_place = { λ s v at. IsOfVertex s v at × (at.place ≤ length (ins s.nodes.entries v)) };
 
     ghost label_text = { λ s. text_at s.names };
 
@@ -61,16 +77,22 @@ impl HoldGraph for LabelGraph {
         self.node(v).ins.as_slice().len() as u64
     }
 
-    fn out_row(&self, _v: u32) -> Spot {
+    fn out_row(&self, v: u32) -> Spot {
         // For the proof: no two names are the same.
         let _names = self.names.len();
-        Spot { place: 0 }
+        Spot {
+            node: self.index(v),
+            place: 0,
+        }
     }
 
-    fn in_row(&self, _v: u32) -> Spot {
+    fn in_row(&self, v: u32) -> Spot {
         // For the proof: no two names are the same.
         let _names = self.names.len();
-        Spot { place: 0 }
+        Spot {
+            node: self.index(v),
+            place: 0,
+        }
     }
 
     fn label_number(&self, label: &Text) -> Option<u32> {

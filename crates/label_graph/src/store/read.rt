@@ -47,12 +47,13 @@ impl<L: Ledger> ReadGraph<L> for LabelGraph {
 
     fn out_at(&self, v: u32, at: Spot, steps: &mut Steps<L>) -> Option<Turn<'_>> {
         steps.tick();
-        let turn = self.node(v).outs.get(at.place)?;
+        let turn = self.node_at(v, at).outs.get(at.place)?;
         Some(Turn {
             label: self.names.text(turn.label),
             number: turn.label,
             other: turn.other,
             next: Spot {
+                node: at.node,
                 place: at.place + 1,
             },
         })
@@ -60,12 +61,13 @@ impl<L: Ledger> ReadGraph<L> for LabelGraph {
 
     fn in_at(&self, v: u32, at: Spot, steps: &mut Steps<L>) -> Option<Turn<'_>> {
         steps.tick();
-        let turn = self.node(v).ins.get(at.place)?;
+        let turn = self.node_at(v, at).ins.get(at.place)?;
         Some(Turn {
             label: self.names.text(turn.label),
             number: turn.label,
             other: turn.other,
             next: Spot {
+                node: at.node,
                 place: at.place + 1,
             },
         })
