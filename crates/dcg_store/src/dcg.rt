@@ -1,5 +1,6 @@
 //! `Dcg`: the rows of a pattern.
-ghost use Rattle.std.specs.Prelude.{◌≡◌, ◌+◌, ◌-◌, ◌<◌, ◌^◌, length, slice_index, true, false, None, IsSome, IfOk, OnOk, OnErr};
+ghost use Rattle.std.specs.Prelude.{◌≡◌, ℕ, ◌+◌, ◌-◌, ◌<◌, ◌^◌, length, nat_eq, slice_index, true, false, is_some, None, IsSome, IfOk, OnOk, OnErr};
+ghost use Rattle.std.specs.List.{list_any, IsDistinct};
 ghost use Rattle.std.specs.Option.{ForSome, IsSomeAnd};
 ghost use Rattle.std.specs.FinMap.{empty, len};
 ghost use Rattle.flux_model.specs.Exact.{row_at};
@@ -108,6 +109,17 @@ impl Dcg {
     {
         let _stored = self.stored;
         self.layers[u].live()
+    }
+
+    /// The graph vertices that have a row with `u`, each once, in no told order.
+    pub fn row_vertices(&self, u: usize) -> &[u32]
+        requires whole { self.now.is_broken ≡ false }
+        requires vertex { u < length self.now.children }
+        ensures once { IsDistinct nat_eq result.now }
+        ensures rows { (v : ℕ) → list_any (nat_eq v) result.now ≡ is_some (row_at self.now u v) }
+    {
+        let _stored = self.stored;
+        self.layers[u].vertices()
     }
 
     /// How many rows there are.

@@ -1,5 +1,6 @@
 //! `Layer`: the rows of one pattern vertex.
-ghost use Rattle.std.specs.Prelude.{◌≡◌, ◌+◌, ◌-◌, ◌<◌, ◌^◌, length, slice_index, is_some, IsSome, None, OnOk, OnErr, if◌then◌else◌};
+ghost use Rattle.std.specs.Prelude.{◌≡◌, ℕ, ◌+◌, ◌-◌, ◌<◌, ◌^◌, length, nat_eq, slice_index, is_some, IsSome, None, OnOk, OnErr, if◌then◌else◌};
+ghost use Rattle.std.specs.List.{list_any, IsDistinct};
 ghost use Rattle.std.specs.Option.{ForSome, IsSomeAnd};
 ghost use Rattle.std.specs.FinMap.{empty, get, insert, remove};
 ghost use Rattle.dcg_store.specs.Counters.{first_row, state_of_row, more_ins, fewer_ins, more_outs, fewer_outs, has_last_in};
@@ -8,14 +9,14 @@ ghost use Rattle.dcg_store.specs.Layers.{live_in};
 
 use crate::row::Row;
 use flux_model::State;
+use indexmap::IndexMap;
 use std::alloc::{AllocError, Global};
-use std::collections::HashMap;
 use std::marker::Model;
 
 /// The rows of one pattern vertex, by graph vertex.
 #[derive(Drop)]
 pub(crate) struct Layer {
-    rows: HashMap<u32, Row>,
+    rows: IndexMap<u32, Row>,
     /// How many rows are explicit.
     live: u64,
 }
@@ -43,7 +44,7 @@ impl Layer {
         ensures { result ≡ empty }
     {
         Layer {
-            rows: HashMap::new(alloc),
+            rows: IndexMap::new(alloc),
             live: 0,
         }
     }
@@ -53,6 +54,14 @@ impl Layer {
         ensures { result ≡ live_in self.now }
     {
         self.live
+    }
+
+    /// The vertices that have a row.
+    pub(crate) fn vertices(&self) -> &[u32]
+        ensures once { IsDistinct nat_eq result.now }
+        ensures rows { (v : ℕ) → list_any (nat_eq v) result.now ≡ is_some (get self.now v) }
+    {
+        self.rows.keys().as_slice()
     }
 
     /// The state of the pair with `v`.
@@ -125,7 +134,7 @@ impl Layer {
         requires { IsSome (get self.old v) }
         ensures { self.new ≡ remove self.old v }
     {
-        let Some(row) = self.rows.remove(&v) else {
+        let Some(row) = self.rows.swap_remove(&v) else {
             return;
         };
         let was = one_if(row.into_full());
