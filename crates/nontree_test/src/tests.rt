@@ -122,7 +122,10 @@ fn assert_joins(
 {
     for i in 0..cases.len() {
         let (given, candidate, answer) = cases[i];
-        assert_eq!(rt; joined(rt, alloc, pattern, tree, graph, given, candidate)?, answer);
+        assert_eq!(rt;
+            joined(rt, alloc, pattern, tree, graph, given, candidate)?,
+            answer
+        );
     }
     Ok(())
 }
