@@ -1,14 +1,10 @@
 -- What is left of a row while its ends are counted.
-use Rattle.std.proofs.Common.{◌≡◌, ℕ, ◌+◌, ◌≤◌, Bool, true, false, cond, ◌==◌, ◌&&◌, List, [], ◌∷◌, refl, sym, ap, ◌∙◌, arith}
-use Rattle.std.specs.Prelude.{Option, None, Some, count_by}
-use Rattle.std.specs.Option.{is_some}
+use Rattle.std.proofs.Common.{◌≡◌, ℕ, ◌+◌, ◌≤◌, Bool, true, false, cond, ◌==◌, ◌&&◌, List, [], ◌∷◌, sym, ap, ◌∙◌, arith}
+use Rattle.std.specs.Prelude.{count_by}
 use Rattle.std.specs.Cmp.{nat_eq_equiv}
 use Rattle.std.proofs.lemmas.List.Sums.{sum_by-cons}
 use Rattle.flux_model.specs.Graph.{Graph}
 use Rattle.flux_model.specs.Pattern.{fits_labels}
-use Rattle.flux_model.specs.Exact.{Row}
-use Rattle.flux_model.specs.declared.state.State.TheVariants.{Null, Implicit, Explicit}
-use Rattle.dcg_store.specs.Counters.{state_of_row, is_full}
 use Rattle.dcg_transition.specs.Filled.{joins}
 
 -- ---- one end
@@ -38,21 +34,3 @@ not_last p x rest next more whole is here before =
 
 pub none_late : (p : ℕ → Bool) (rest : List ℕ) (more whole : ℕ) → rest ≡ [] → more + count_by p rest ≡ whole → more ≡ whole
 none_late p rest more whole is before = omega (arith, ap (count_by p) is, before)
-
--- ---- the state that a row tells
-
-full_state : (b : Bool) → (cond b Explicit Implicit) ≡ Null → ⊥
-full_state true h = let bad : Explicit ≡ Null = h in cc
-full_state false h = let bad : Implicit ≡ Null = h in cc
-
-pub none_of_null : (o : Option Row) → Null ≡ state_of_row o → o ≡ None
-none_of_null None h = refl
-none_of_null (Some row) h = absurd (full_state (is_full row) (sym h))
-
-pub some_of_implicit : (o : Option Row) → Implicit ≡ state_of_row o → is_some o ≡ true
-some_of_implicit None h = absurd (let bad : Implicit ≡ Null = h in cc)
-some_of_implicit (Some row) h = refl
-
-pub some_of_explicit : (o : Option Row) → Explicit ≡ state_of_row o → is_some o ≡ true
-some_of_explicit None h = absurd (let bad : Explicit ≡ Null = h in cc)
-some_of_explicit (Some row) h = refl

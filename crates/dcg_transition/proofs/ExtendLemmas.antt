@@ -1,15 +1,14 @@
 -- The out counters for one pattern vertex, at its parent.
 use Rattle.std.proofs.Common.{◌≡◌, ◌≢◌, ℕ, suc, ◌+◌, ◌<◌, ◌≤◌, Bool, true, false, cond, ◌==◌, ◌&&◌, List, [], ◌∷◌, map, length, get_or, set, take, inl, inr, refl, sym, ap, ◌∙◌, arith}
-use Rattle.std.specs.Prelude.{◌⊎◌, Option, None, Some, count_by, slice_index, slice_get, IsPermutation}
-use Rattle.std.specs.Option.{option_map, ForSome}
-use Rattle.std.specs.List.{sum_by}
+use Rattle.std.specs.Prelude.{◌⊎◌, Option, None, Some, count_by, nat_eq, slice_index, slice_get}
+use Rattle.std.specs.Option.{is_some, option_map, ForSome, IsSomeAnd}
+use Rattle.std.specs.List.{sum_by, list_any, IsDistinct}
 use Rattle.std.proofs.lemmas.Bool.{and_parts, eq-eqb, ne_eqb, cases_eq}
 use Rattle.std.proofs.lemmas.List.{ext_get_or, get_or-map, get_or-set_same, get_or-set_other, length-map, length-set, take_all}
 use Rattle.std.proofs.lemmas.List.Sums.{sum_by-take-le, sum_by_more, count_by-le-length}
-use Rattle.std.proofs.lemmas.List.Sorted.{sum_by-IsPermutation}
 use Rattle.std.proofs.lemmas.List.FromFn.{get_or-map-range_with_len}
 use Rattle.std.proofs.lemmas.Option.{get_or_from_slice_get, slice_get-get_or, slice_get_within}
-use Rattle.flux_model.specs.Graph.{Graph, ids}
+use Rattle.flux_model.specs.Graph.{Graph, has_vertex}
 use Rattle.flux_model.specs.Pattern.{PatternGraph, fits}
 use Rattle.flux_model.specs.Tree.{QueryTree, link_at, children, IsTree, BelongsTo}
 use Rattle.flux_model.specs.States.{Joined, joined, reaches, extends, is_explicit}
@@ -21,17 +20,16 @@ use Rattle.query_tree.specs.Depth.{depth}
 use Rattle.query_tree.proofs.CallerLemmas.{depth-below, child_once, parent_within}
 use Rattle.dcg_store.proofs.ListLemmas.{In}
 use Rattle.dcg_store.proofs.StateLemmas.{child_of, fits_of_reaches, full_is_extends}
-use Rattle.dcg_store.proofs.BoundLemmas.{fits-id}
 use Rattle.dcg_transition.specs.Branches.{IsBranchOf, ends, opens_from, opens_among, IsTallied}
 use Rattle.dcg_transition.specs.Ends.{whole_row, ends_of}
 use Rattle.dcg_transition.specs.Filled.{child_counts, is_open, opens, with_more_outs, HasMoreOuts, HasRoomFor, counted_row}
 use Rattle.dcg_transition.specs.Levels.{is_after, IsCounted}
 use Rattle.dcg_transition.specs.declared.branch.Branch.{Branch}
 use Rattle.dcg_transition.proofs.JointLemmas.{count_same, ends_few, apart, joints_of_row}
-use Rattle.dcg_transition.proofs.SumLemmas.{sum_alike, once, distinct_ids}
+use Rattle.dcg_transition.proofs.SumLemmas.{sum_alike, once}
 use Rattle.dcg_transition.proofs.OutLemmas.{outs_same_option, outs_twice_option}
 use Rattle.dcg_transition.proofs.LevelLemmas.{has_depths, after_other, after_here, after_not, after_deeper}
-use Rattle.dcg_transition.proofs.ReachLemmas.{implied}
+use Rattle.dcg_transition.proofs.ReachLemmas.{implied, in_any_row, vertex_of_fits}
 
 -- ---- rows whose children are counted
 
@@ -65,6 +63,14 @@ pub child_deeper : (t : QueryTree) → IsTree t → (u c : ℕ) → In c (childr
 child_deeper t is u c m =
     let child = child_of t u c m in
     depth-below t is c child.1 child.2 ∙ ap (λ p. suc (depth t p)) child.3
+
+mapped_some : (f : Row → Row) (o : Option Row) → is_some (option_map f o) ≡ is_some o
+mapped_some f None = refl
+mapped_some f (Some row) = refl
+
+pub some_and : (P : Row → Type 0) (o : Option Row) → ForSome o P → is_some o ≡ true → IsSomeAnd o P
+some_and P None h some = absurd (let bad : false ≡ true = some in cc)
+some_and P (Some row) h some = h row refl
 
 -- ---- while a branch's child is counted
 
@@ -170,14 +176,30 @@ module _ (q : PatternGraph) (t : QueryTree) (belongs : BelongsTo q t) (b : Branc
       let size = ap (λ (l : List ℕ). length l) (parent_row y row e).1 in
       omega (arith, size, length-map (children t b.link.parent) (counted from_parent was y), number_inside)
 
-  parent_in : (y : ℕ) → reaches from_parent b.link.parent y ≡ true → In y (ids g)
-  parent_in y reached = fits-id q b.link.parent g y (fits_of_reaches from_parent (length t.links) b.link.parent y reached)
+  -- the vertices that have a row with the parent are those that it reaches
+  parent_reaches : (y : ℕ) → is_some (row_at old b.link.parent y) ≡ reaches from_parent b.link.parent y
+  parent_reaches y = ap is_some (before.rows b.link.parent y) ∙ by (reaches from_parent b.link.parent y)
+    where
+      by : (s : Bool) → is_some {T = Row} (cond s (Some (record { ins = in_count from_parent b.link.parent y; outs = map (counted from_parent was y) (children t b.link.parent) })) None) ≡ s
+      by true = refl
+      by false = refl
 
-  module _ (limits : Limits) (held : IsHeld limits g) (listed : List ℕ) (each : IsPermutation listed (ids g)) where
+  pub in_rows_out : (vs : List ℕ) → ((v : ℕ) → list_any (nat_eq v) vs ≡ is_some (row_at old b.link.parent v)) → (v : ℕ) → reaches from_parent b.link.parent v ≡ true → In v vs
+  in_rows_out vs rows v h = in_any_row vs v (rows v ∙ (parent_reaches v ∙ h))
+
+  pub row_stands_out : (v : ℕ) → is_some (row_at old b.link.parent v) ≡ true → has_vertex g v ≡ true
+  row_stands_out v some = vertex_of_fits q b.link.parent g v (fits_of_reaches from_parent (length t.links) b.link.parent v (sym (parent_reaches v) ∙ some))
+
+  -- the rows stay while their counters grow
+  pub stays_there : (vs : List ℕ) (mid : StateRows) (v : ℕ) → IsTallied b g vs old mid → is_some (row_at old b.link.parent v) ≡ true → is_some (row_at mid b.link.parent v) ≡ true
+  stays_there vs mid v is some =
+      ap is_some (is.rows b.link.parent v
+      ∙ ap (λ s. cond s (option_map (with_more_outs b.number (so_many vs v)) (row_at old b.link.parent v)) (row_at old b.link.parent v)) (eq-eqb b.link.parent b.link.parent refl))
+      ∙ (mapped_some (with_more_outs b.number (so_many vs v)) (row_at old b.link.parent v) ∙ some)
+
+  module _ (limits : Limits) (held : IsHeld limits g) (listed : List ℕ) (distinct : IsDistinct nat_eq listed) (inside : (y : ℕ) → reaches from_parent b.link.parent y ≡ true → In y listed) where
     so_many-listed : (y : ℕ) → reaches from_parent b.link.parent y ≡ true → so_many listed y ≡ tally old y
-    so_many-listed y reached =
-        sym (sum_by-IsPermutation (λ v. cond (v == y) (tally old v) 0) listed (ids g) each)
-        ∙ so_many-all (ids g) y (once y (tally old y) (ids g) (distinct_ids g held.graph) (parent_in y reached))
+    so_many-listed y reached = so_many-all listed y (once y (tally old y) listed distinct (inside y reached))
 
     -- no out counter comes to its bound
     pub room_out : (i v : ℕ) (mid : StateRows) → IsTallied b g (take i listed) old mid → ForSome (row_at mid b.link.parent v) (HasRoomFor b.number (tally mid v))
@@ -212,7 +234,7 @@ module _ (q : PatternGraph) (t : QueryTree) (belongs : BelongsTo q t) (b : Branc
               ),
             )
 
-    -- one vertex of the graph further
+    -- one vertex further
     pub tallied_further : (i v : ℕ) (mid new : StateRows) → slice_get listed i ≡ Some v → IsTallied b g (take i listed) old mid → HasMoreOuts b.link.parent v b.number (tally mid v) mid new → IsTallied b g (take (i + 1) listed) old new
     tallied_further i v mid new at is next = record {
       whole = next.whole ∙ is.whole;
@@ -313,7 +335,7 @@ module _ (q : PatternGraph) (t : QueryTree) (belongs : BelongsTo q t) (b : Branc
         let link : child.1 ≡ b.link = cc in
         other (sym child.3 ∙ ap (λ (l : TreeLink). l.parent) link))))
 
-    -- all vertices of the graph
+    -- all vertices
     pub child_counted : (i : ℕ) (new : StateRows) → length listed ≤ i → IsTallied b g (take i listed) old new → IsCounted from_parent now new
     child_counted i new end is = record {
       whole = is.whole ∙ before.whole;

@@ -1,16 +1,16 @@
 -- The rows of one pattern vertex, from those of its parent.
 use Rattle.std.proofs.Common.{◌≡◌, ℕ, zero, suc, ◌+◌, ◌-◌, ◌^◌, ◌<◌, ◌≤◌, Bool, true, false, cond, ◌==◌, ◌&&◌, nat_lt, List, [], ◌∷◌, map, length, take, inl, inr, refl, sym, ap, subst, ◌∙◌, arith}
-use Rattle.std.specs.Prelude.{◌⊎◌, Option, None, Some, count_by, slice_index, slice_index_or, slice_get, replicate, IsPermutation}
+use Rattle.std.specs.Prelude.{◌⊎◌, Option, None, Some, count_by, nat_eq, slice_index, slice_index_or, replicate}
 use Rattle.std.specs.Option.{is_some}
-use Rattle.std.specs.List.{sum_by, list_any, filter_map, cons_option}
+use Rattle.std.specs.List.{sum_by, list_any, filter_map, cons_option, IsDistinct}
 use Rattle.std.specs.Str.{bytes_eq}
-use Rattle.std.proofs.lemmas.Bool.{and_parts, eqb-true, lt-ltb, cases_eq}
+use Rattle.std.proofs.lemmas.Bool.{and_parts, eqb-true, eq-eqb, lt-ltb, cases_eq}
 use Rattle.std.proofs.lemmas.List.{take_all}
 use Rattle.std.proofs.lemmas.List.Sums.{sum_by-take-le, sum_by_more, count_by-le-length}
-use Rattle.std.proofs.lemmas.Option.{get_or_from_slice_get, slice_get_within}
-use Rattle.std.proofs.lemmas.List.Sorted.{sum_by-IsPermutation}
 use Rattle.std.proofs.lemmas.List.FromFn.{get_or-map-range_with_len}
-use Rattle.flux_model.specs.Graph.{Graph, IsGraph, ids}
+use Rattle.flux_model.specs.Graph.{Graph, has_vertex}
+use Rattle.flux_model.specs.Labels.{is_within}
+use Rattle.flux_model.specs.declared.graph.Vertex.{Vertex}
 use Rattle.flux_model.specs.Pattern.{PatternGraph, vertex_count, fits, fits_labels}
 use Rattle.flux_model.specs.Tree.{QueryTree, link_at, edge_at, children, BelongsTo}
 use Rattle.flux_model.specs.States.{Joint, Joined, joined, joint_of, reaches}
@@ -22,17 +22,17 @@ use Rattle.flux_model.specs.declared.tree.TreeLink.{TreeLink}
 use Rattle.label_graph.specs.Held.{IsHeld}
 use Rattle.query_tree.specs.Depth.{depth}
 use Rattle.query_tree.proofs.CallerLemmas.{link_within, depth-below}
-use Rattle.dcg_store.proofs.ListLemmas.{In, some_counted, found_in}
+use Rattle.dcg_store.proofs.ListLemmas.{In, some_counted, found_in, list_any-in}
 use Rattle.dcg_store.proofs.StateLemmas.{fits_of_reaches}
-use Rattle.dcg_store.proofs.BoundLemmas.{fits-id, length-filter_map}
+use Rattle.dcg_store.proofs.BoundLemmas.{length-filter_map}
 use Rattle.dcg_transition.specs.Ends.{whole_row, ends_of, direction_to}
 use Rattle.dcg_transition.specs.Filled.{begun, ins_at, joins, AreBegun, HasMoreIns, counted_row}
 use Rattle.dcg_transition.specs.Levels.{is_before, IsReached}
 use Rattle.dcg_transition.specs.Branches.{IsBranchOf, ends, joins_from}
 use Rattle.dcg_transition.specs.declared.branch.Branch.{Branch}
 use Rattle.dcg_transition.proofs.CallerLemmas.{reaches-below}
-use Rattle.dcg_transition.proofs.JointLemmas.{count_same, ends_few, ends_down, ends_up, apart, joints_of_row}
-use Rattle.dcg_transition.proofs.SumLemmas.{sum_alike, sum_of_joints, distinct_ids}
+use Rattle.dcg_transition.proofs.JointLemmas.{count_same, ends_few, ends_down, ends_up, joints_of_row}
+use Rattle.dcg_transition.proofs.SumLemmas.{sum_alike, sum_of_joints}
 use Rattle.dcg_transition.proofs.BegunLemmas.{ins_of, more_twice}
 use Rattle.dcg_transition.proofs.LevelLemmas.{before_other, before_here, before_not, before_less}
 
@@ -129,6 +129,22 @@ module _ (q : PatternGraph) (t : QueryTree) (belongs : BelongsTo q t) (u : ℕ) 
   in_count_few v =
       omega (arith, in_count_link v, count_by-le-length (λ (e : Joint). e.below == v && reaches over l.parent e.above) (over.joints u), length-filter_map (joint_of q t g u) g.triples)
 
+pub in_any_row : (vs : List ℕ) (v : ℕ) → list_any (nat_eq v) vs ≡ true → In v vs
+in_any_row vs v h = let f = found_in (nat_eq v) vs h in subst (λ z. In z vs) (sym (eqb-true v f.0 f.2)) f.1
+
+in_at : (vs : List ℕ) (i : ℕ) → i < length vs → In (slice_index vs i) vs
+in_at [] i within = absurd (omega (arith, within))
+in_at (v ∷ vs) zero within = inl refl
+in_at (v ∷ vs) (suc i) within = inr (in_at vs i (omega (arith, within)))
+
+pub any_at : (vs : List ℕ) (i : ℕ) → i < length vs → list_any (nat_eq (slice_index vs i)) vs ≡ true
+any_at vs i within = list_any-in (nat_eq (slice_index vs i)) (slice_index vs i) vs (in_at vs i within) (eq-eqb (slice_index vs i) (slice_index vs i) refl)
+
+pub vertex_of_fits : (q : PatternGraph) (u : ℕ) (g : Graph) (v : ℕ) → fits q u g v ≡ true → has_vertex g v ≡ true
+vertex_of_fits q u g v fit =
+    let w = found_in (λ (x : Vertex). x.id == v && is_within (slice_index_or q.labels u []) x.labels) g.vertices (and_parts _ _ fit).1 in
+    list_any-in (λ (x : Vertex). x.id == v) w.0 g.vertices w.1 (and_parts (w.0.id == v) (is_within (slice_index_or q.labels u []) w.0.labels) w.2).0
+
 -- ---- while the rows of a branch's child are made
 
 module _ (q : PatternGraph) (t : QueryTree) (belongs : BelongsTo q t) (b : Branch) (branch : IsBranchOf q t b) (g : Graph) (old : StateRows)
@@ -172,16 +188,21 @@ module _ (q : PatternGraph) (t : QueryTree) (belongs : BelongsTo q t) (b : Branc
       by true r = row_joints v w (fits_of_reaches to_child (length t.links) b.link.parent v r)
       by false r = refl
 
-  -- to_child all vertices of the graph as many joints lead in as there are
-  from_all : IsGraph g → (w : ℕ) → sum_by (joins_from old b g w) (ids g) ≡ in_count to_child b.child w
-  from_all is w =
-      sum_alike (joins_from old b g w) (λ v. cond (reaches to_child b.link.parent v) (count_by (λ e. e.above == v && e.below == w) (to_child.joints b.child)) 0) (ids g) (from_joints w)
-      ∙ sum_of_joints (reaches to_child b.link.parent) w (ids g) (distinct_ids g is) (λ x h. fits-id q b.link.parent g x (fits_of_reaches to_child (length t.links) b.link.parent x h)) (to_child.joints b.child)
-      ∙ sym (in_count_link q t belongs b.child b.link branch.link g w)
+  -- the vertices that have a row with the parent are those that it reaches
+  pub in_rows : (vs : List ℕ) → ((v : ℕ) → list_any (nat_eq v) vs ≡ is_some (row_at old b.link.parent v)) → (v : ℕ) → reaches to_child b.link.parent v ≡ true → In v vs
+  in_rows vs rows v h = in_any_row vs v (rows v ∙ (parent_reaches v ∙ h))
 
-  module _ (limits : Limits) (held : IsHeld limits g) (listed : List ℕ) (each : IsPermutation listed (ids g)) where
+  -- and they are vertices of the graph
+  pub row_stands : (v : ℕ) → is_some (row_at old b.link.parent v) ≡ true → has_vertex g v ≡ true
+  row_stands v some = vertex_of_fits q b.link.parent g v (fits_of_reaches to_child (length t.links) b.link.parent v (sym (parent_reaches v) ∙ some))
+
+  module _ (limits : Limits) (held : IsHeld limits g) (listed : List ℕ) (distinct : IsDistinct nat_eq listed) (inside : (v : ℕ) → reaches to_child b.link.parent v ≡ true → In v listed) where
+    -- from all that the parent reaches as many joints lead in as there are
     from_listed : (w : ℕ) → sum_by (joins_from old b g w) listed ≡ in_count to_child b.child w
-    from_listed w = sym (sum_by-IsPermutation (joins_from old b g w) listed (ids g) each) ∙ from_all held.graph w
+    from_listed w =
+        sum_alike (joins_from old b g w) (λ v. cond (reaches to_child b.link.parent v) (count_by (λ e. e.above == v && e.below == w) (to_child.joints b.child)) 0) listed (from_joints w)
+        ∙ sum_of_joints (reaches to_child b.link.parent) w listed distinct inside (to_child.joints b.child)
+        ∙ sym (in_count_link q t belongs b.child b.link branch.link g w)
 
     -- no in counter comes to its bound
     pub room : (i v w : ℕ) (d : StateRows) → HasMoreIns b.child (λ x. sum_by (joins_from old b g x) (take i listed)) old d
@@ -200,19 +221,17 @@ module _ (q : PatternGraph) (t : QueryTree) (belongs : BelongsTo q t) (b : Branc
           held.fair.edges.1,
         )
 
-    -- one vertex of the graph further
-    pub one_further : (i v : ℕ) (mid new : StateRows) → slice_get listed i ≡ Some v → HasMoreIns b.child (λ x. sum_by (joins_from old b g x) (take i listed)) old mid
-        → HasMoreIns b.child (λ w. joins_from mid b g w v) mid new → HasMoreIns b.child (λ x. sum_by (joins_from old b g x) (take (i + 1) listed)) old new
-    one_further i v mid new at so_far next =
-        more_twice b.child (λ x. sum_by (joins_from old b g x) (take i listed)) (λ w. joins_from mid b g w v)
+    -- one vertex further
+    pub one_further : (i : ℕ) (mid new : StateRows) → i < length listed → is_some (row_at old b.link.parent (slice_index listed i)) ≡ true → HasMoreIns b.child (λ x. sum_by (joins_from old b g x) (take i listed)) old mid
+        → HasMoreIns b.child (λ w. count_by (joins g b.labels.now w) (ends b g (slice_index listed i))) mid new → HasMoreIns b.child (λ x. sum_by (joins_from old b g x) (take (i + 1) listed)) old new
+    one_further i mid new within some so_far next =
+        more_twice b.child (λ x. sum_by (joins_from old b g x) (take i listed)) (λ w. count_by (joins g b.labels.now w) (ends b g (slice_index listed i)))
         (λ x. sum_by (joins_from old b g x) (take (i + 1) listed)) old mid new so_far next
         (λ w.
-        let same = ap (λ o. cond (is_some o) (count_by (joins g b.labels.now w) (ends b g v)) 0) (so_far.beside.others b.link.parent v (λ e. apart q t belongs b.child b.link branch.link (sym e))) in
-        let within = slice_get_within listed i v at in
-        let here = ap (joins_from old b g w) (get_or_from_slice_get listed i v v at) in
-        omega (arith, sum_by_more (joins_from old b g w) listed i v within, here, same))
+        let here = ap (λ s. cond s (count_by (joins g b.labels.now w) (ends b g (slice_index listed i))) 0) some in
+        omega (arith, sum_by_more (joins_from old b g w) listed i 0 within, here))
 
-    -- all vertices of the graph
+    -- all vertices
     pub vertex_reached : (i : ℕ) (new : StateRows) → length listed ≤ i → HasMoreIns b.child (λ x. sum_by (joins_from old b g x) (take i listed)) old new
         → IsReached to_child (is_before t (depth t b.child) (b.child + 1)) new
     vertex_reached i new end grown = record {

@@ -1,6 +1,6 @@
 //! The out counters, from the leaves up.
-ghost use Rattle.std.specs.Prelude.{◌≡◌, ◌≢◌, ◌<◌, ◌+◌, ◌-◌, length, slice_index, false, IsTrue};
-ghost use Rattle.std.specs.Option.{ForSome, IsSomeAnd};
+ghost use Rattle.std.specs.Prelude.{◌≡◌, ◌≢◌, ◌<◌, ◌+◌, ◌-◌, length, slice_index, false, IsTrue, OnOk};
+ghost use Rattle.std.specs.Option.{IsSomeAnd};
 ghost use Rattle.flux_model.specs.Graph.{has_vertex};
 ghost use Rattle.flux_model.specs.Tree.{BelongsTo};
 ghost use Rattle.flux_model.specs.States.{joined};
@@ -16,29 +16,42 @@ use dcg_store::Dcg;
 use flux_model::{Ledger, Pattern, State, Steps};
 use label_graph::{HoldGraph, ReadGraph};
 use query_tree::QueryTree;
+use std::alloc::{AllocError, Global};
 
 /// Raises the out counters of all rows, where none is raised yet. `depths` has the depth of each vertex.
 pub fn extend<G: ReadGraph<L>, L: Ledger>(
+    alloc: Global,
     graph: &G,
     pattern: &Pattern,
     tree: &QueryTree,
     depths: &[usize],
     dcg: &mut Dcg,
     steps: &mut Steps<L>,
-)
+) -> Result<(), AllocError>
     requires belongs { BelongsTo pattern.now tree.now }
     requires depths { depths.now ≡ depths_of tree.now }
     requires reached { IsCounted (joined pattern.now tree.now (G.graph graph.now)) (λ _. false) dcg.old }
-    ensures { IsExact pattern.now tree.now (G.graph graph.now) dcg.new }
+    ensures { OnOk result (IsExact pattern.now tree.now (G.graph graph.now) dcg.new) }
 {
     let count = tree.vertex_count();
     for done in 1..count {
-        extend_level(graph, pattern, tree, depths, count - done, dcg, steps);
+        extend_level(
+            alloc,
+            graph,
+            pattern,
+            tree,
+            depths,
+            count - done,
+            dcg,
+            steps,
+        )?;
     }
+    Ok(())
 }
 
 /// Counts the vertices of one level at their parents, where those of the levels below are counted.
 fn extend_level<G: ReadGraph<L>, L: Ledger>(
+    alloc: Global,
     graph: &G,
     pattern: &Pattern,
     tree: &QueryTree,
@@ -46,65 +59,46 @@ fn extend_level<G: ReadGraph<L>, L: Ledger>(
     level: usize,
     dcg: &mut Dcg,
     steps: &mut Steps<L>,
-)
+) -> Result<(), AllocError>
     requires belongs { BelongsTo pattern.now tree.now }
     requires depths { depths.now ≡ depths_of tree.now }
     requires below_root { 0 < level }
     requires counted { IsCountedTo pattern.now tree.now (G.graph graph.now) level 0 dcg.old }
-    ensures { IsCountedTo pattern.now tree.now (G.graph graph.now) (level - 1) 0 dcg.new }
+    ensures { OnOk result (IsCountedTo pattern.now tree.now (G.graph graph.now) (level - 1) 0 dcg.new) }
 {
     for (u, depth) in depths.iter().enumerate() {
         if *depth != level {
             continue;
         }
-        extend_to(graph, pattern, tree, u, dcg, steps);
+        extend_to(alloc, graph, pattern, tree, u, dcg, steps)?;
     }
+    Ok(())
 }
 
 /// Counts the vertex `u`, which is not the root, at its parent: each row gets the number of joints to explicit pairs of `u`.
 fn extend_to<G: ReadGraph<L>, L: Ledger>(
+    alloc: Global,
     graph: &G,
     pattern: &Pattern,
     tree: &QueryTree,
     u: usize,
     dcg: &mut Dcg,
     steps: &mut Steps<L>,
-)
+) -> Result<(), AllocError>
     requires belongs { BelongsTo pattern.now tree.now }
     requires vertex { u < length tree.now.links }
     requires not_root { u ≢ tree.now.root }
     requires counted { IsCountedTo pattern.now tree.now (G.graph graph.now) (depth tree.now u) u dcg.old }
-    ensures { IsCountedTo pattern.now tree.now (G.graph graph.now) (depth tree.now u) (u + 1) dcg.new }
+    ensures { OnOk result (IsCountedTo pattern.now tree.now (G.graph graph.now) (depth tree.now u) (u + 1) dcg.new) }
 {
     let branch = Branch::of(graph, pattern, tree, u);
-    for i in 0..graph.vertex_count() {
-        let v = graph.vertex_at(i, steps);
-        extend_from(graph, &branch, v, dcg, steps);
+    // For the proof: the graph is within its limits.
+    let _count = graph.edge_count();
+    let vertices = Vec::from_slice(alloc, dcg.row_vertices(branch.link.parent))?;
+    for v in &vertices {
+        extend_ends(graph, &branch, *v, dcg, steps);
     }
-}
-
-/// Counts the joints from `v` to explicit pairs, where the pair of the parent and `v` is not null.
-fn extend_from<G: ReadGraph<L>, L: Ledger>(
-    graph: &G,
-    branch: &Branch<'_>,
-    v: u32,
-    dcg: &mut Dcg,
-    steps: &mut Steps<L>,
-)
-    requires stands { IsTrue (has_vertex (G.graph graph.now) v) }
-    requires label_number { IsNumberOf (G.label_text graph.now) branch.now.label.now branch.now.label_number }
-    requires whole { dcg.old.is_broken ≡ false }
-    requires parent { branch.now.link.parent < length dcg.old.children }
-    requires child { branch.now.child < length dcg.old.children }
-    requires apart { branch.now.child ≢ branch.now.link.parent }
-    requires number { branch.now.number < slice_index dcg.old.children branch.now.link.parent }
-    requires room { ForSome (row_at dcg.old branch.now.link.parent v) (HasRoomFor branch.now.number (opens_from dcg.old branch.now (G.graph graph.now) v)) }
-    ensures { HasMoreOuts branch.now.link.parent v branch.now.number (opens_from dcg.old branch.now (G.graph graph.now) v) dcg.old dcg.new }
-{
-    match dcg.pair_state(branch.link.parent, v, steps) {
-        State::Null => {}
-        State::Implicit | State::Explicit => extend_ends(graph, branch, v, dcg, steps),
-    }
+    Ok(())
 }
 
 /// Counts the joints from `v` to explicit pairs.

@@ -6,19 +6,20 @@ ghost use Rattle.flux_model.specs.Tree.{BelongsTo};
 ghost use Rattle.flux_model.specs.States.{joined};
 ghost use Rattle.label_graph.specs.Numbers.{IsNumberOf};
 ghost use Rattle.query_tree.specs.Depth.{depth};
-ghost use Rattle.dcg_transition.specs.Branches.{joins_to, joins_from, HasRoomToJoin};
+ghost use Rattle.dcg_transition.specs.Branches.{joins_to, HasRoomToJoin};
 ghost use Rattle.dcg_transition.specs.Filled.{child_counts, AreBegun, HasMoreIns};
 ghost use Rattle.dcg_transition.specs.Levels.{depths_of, IsReachedTo, IsCounted};
 
 use crate::branch::Branch;
 use dcg_store::Dcg;
-use flux_model::{Ledger, Pattern, State, Steps};
+use flux_model::{Ledger, Pattern, Steps};
 use label_graph::{HoldGraph, ReadGraph};
 use query_tree::QueryTree;
-use std::alloc::AllocError;
+use std::alloc::{AllocError, Global};
 
 /// Makes the rows of all pairs that are not null, with no out counter raised. `depths` has the depth of each vertex.
 pub fn reach<G: ReadGraph<L>, L: Ledger>(
+    alloc: Global,
     graph: &G,
     pattern: &Pattern,
     tree: &QueryTree,
@@ -33,7 +34,7 @@ pub fn reach<G: ReadGraph<L>, L: Ledger>(
 {
     reach_root(graph, pattern, tree, dcg, steps)?;
     for level in 1..tree.vertex_count() {
-        reach_level(graph, pattern, tree, depths, level, dcg, steps)?;
+        reach_level(alloc, graph, pattern, tree, depths, level, dcg, steps)?;
     }
     Ok(())
 }
@@ -63,6 +64,7 @@ fn reach_root<G: ReadGraph<L>, L: Ledger>(
 
 /// Makes the rows of the vertices of one level, where those of the levels above are there.
 fn reach_level<G: ReadGraph<L>, L: Ledger>(
+    alloc: Global,
     graph: &G,
     pattern: &Pattern,
     tree: &QueryTree,
@@ -81,13 +83,14 @@ fn reach_level<G: ReadGraph<L>, L: Ledger>(
         if *depth != level {
             continue;
         }
-        reach_vertex(graph, pattern, tree, u, dcg, steps)?;
+        reach_vertex(alloc, graph, pattern, tree, u, dcg, steps)?;
     }
     Ok(())
 }
 
 /// Makes the rows of the vertex `u`, which is not the root, from those of its parent.
 fn reach_vertex<G: ReadGraph<L>, L: Ledger>(
+    alloc: Global,
     graph: &G,
     pattern: &Pattern,
     tree: &QueryTree,
@@ -102,34 +105,13 @@ fn reach_vertex<G: ReadGraph<L>, L: Ledger>(
     ensures { OnOk result (IsReachedTo pattern.now tree.now (G.graph graph.now) (depth tree.now u) (u + 1) dcg.new) }
 {
     let branch = Branch::of(graph, pattern, tree, u);
-    for i in 0..graph.vertex_count() {
-        let v = graph.vertex_at(i, steps);
-        reach_from(graph, &branch, v, dcg, steps)?;
+    // For the proof: the graph is within its limits.
+    let _count = graph.edge_count();
+    let vertices = Vec::from_slice(alloc, dcg.row_vertices(branch.link.parent))?;
+    for v in &vertices {
+        reach_ends(graph, &branch, *v, dcg, steps)?;
     }
     Ok(())
-}
-
-/// Raises the in counters of the ends of the joints from `v`, where the pair of the parent and `v` is not null.
-fn reach_from<G: ReadGraph<L>, L: Ledger>(
-    graph: &G,
-    branch: &Branch<'_>,
-    v: u32,
-    dcg: &mut Dcg,
-    steps: &mut Steps<L>,
-) -> Result<(), AllocError>
-    requires stands { IsTrue (has_vertex (G.graph graph.now) v) }
-    requires label_number { IsNumberOf (G.label_text graph.now) branch.now.label.now branch.now.label_number }
-    requires whole { dcg.old.is_broken ≡ false }
-    requires parent { branch.now.link.parent < length dcg.old.children }
-    requires child { branch.now.child < length dcg.old.children }
-    requires begun { AreBegun dcg.old branch.now.child }
-    requires room { HasRoomToJoin dcg.old branch.now (G.graph graph.now) v }
-    ensures { OnOk result (HasMoreIns branch.now.child (λ w. joins_from dcg.old branch.now (G.graph graph.now) w v) dcg.old dcg.new) }
-{
-    match dcg.pair_state(branch.link.parent, v, steps) {
-        State::Null => Ok(()),
-        State::Implicit | State::Explicit => reach_ends(graph, branch, v, dcg, steps),
-    }
 }
 
 /// Raises the in counters of the ends of the joints from `v`.

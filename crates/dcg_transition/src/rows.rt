@@ -28,7 +28,23 @@ pub fn build<G: ReadGraph<L>, L: Ledger>(
     let depths = depths(alloc, tree)?;
     let counts = child_counts(alloc, tree)?;
     let mut dcg = Dcg::new(alloc, counts.as_slice())?;
-    reach(graph, pattern, tree, depths.as_slice(), &mut dcg, steps)?;
-    extend(graph, pattern, tree, depths.as_slice(), &mut dcg, steps);
+    reach(
+        alloc,
+        graph,
+        pattern,
+        tree,
+        depths.as_slice(),
+        &mut dcg,
+        steps,
+    )?;
+    extend(
+        alloc,
+        graph,
+        pattern,
+        tree,
+        depths.as_slice(),
+        &mut dcg,
+        steps,
+    )?;
     Ok(dcg)
 }

@@ -33,7 +33,7 @@ pub loop-u-preserved : goal.loop-u-preserved
 loop-u-preserved g c =
     let t = c.args.tree.now in
     let here = listed_depth t c.args.depths.now c.loop-u.u c.requires.depths c.loop-u-test.true in
-    subst (λ k. IsCounted (joined c.args.pattern.now t (g.G.HoldGraph.graph c.args.graph.now)) (is_after t k (c.loop-u.u + 1)) c.extend_to.new.dcg) (sym here ∙ c.if-depth-level.false) c.extend_to.ensures
+    subst (λ k. IsCounted (joined c.args.pattern.now t (g.G.HoldGraph.graph c.args.graph.now)) (is_after t k (c.loop-u.u + 1)) c.extend_to.new.dcg) (sym here ∙ c.if-depth-level.false) c.in_ok-extend_to.ensures
 
 pub returns : goal.returns
 returns g c =

@@ -1,86 +1,126 @@
-use Rattle.std.proofs.Common.{ℕ, ◌+◌, List, length, sym, ap, subst, ◌∙◌, arith}
-use Rattle.std.proofs.lemmas.List.{length-map}
-use Rattle.std.proofs.lemmas.List.Sorted.{length_permutation}
-use Rattle.flux_model.specs.Graph.{ids}
+use Rattle.std.proofs.Common.{◌≡◌, ℕ, ◌+◌, ◌<◌, List, length, take, sym, ap, subst, ◌∙◌, arith}
+use Rattle.std.specs.Prelude.{nat_eq, slice_index}
+use Rattle.std.specs.List.{list_any, IsDistinct}
+use Rattle.std.proofs.lemmas.Option.{slice_get-get_or}
+use Rattle.flux_model.specs.Exact.{row_at}
 use Rattle.flux_model.specs.States.{joined}
-use Rattle.flux_model.specs.declared.graph.Vertex.{Vertex}
 use Rattle.query_tree.specs.Depth.{depth}
 use Rattle.query_tree.proofs.CallerLemmas.{link_within, parent_within}
+use Rattle.dcg_transition.specs.Branches.{opens_from}
+use Rattle.dcg_transition.specs.Filled.{HasRoomFor}
 use Rattle.dcg_transition.specs.Levels.{is_after, IsCounted}
 use Rattle.dcg_transition.proofs.LevelLemmas.{length-child_counts}
-use Rattle.dcg_transition.proofs.ExtendLemmas.{none_tallied, child_apart, number_counted, room_out, tallied_further, child_counted}
+use Rattle.dcg_transition.proofs.ReachLemmas.{any_at}
+use Rattle.dcg_transition.proofs.ExtendLemmas.{none_tallied, child_apart, number_counted, room_out, tallied_further, child_counted, in_rows_out, row_stands_out, stays_there, some_and}
 use Rattle.dcg_transition.proofs.extend.extend_to.Goals as goal
 
-pub loop-i-init : goal.loop-i-init
-loop-i-init g c =
-    let q = c.args.pattern.now in
-    let t = c.args.tree.now in
-    let over = joined q t (g.G.HoldGraph.graph c.args.graph.now) in
-    let before = subst (λ u. IsCounted over (is_after t (depth t u) u) c.args.dcg.now) (sym c.of-branch.ensures.child) c.requires.counted in
-    none_tallied q t c.requires.belongs c.of-branch.result c.of-branch.ensures.branch (g.G.HoldGraph.graph c.args.graph.now) c.args.dcg.now before
-
-pub extend_from-requires-clause-parent : goal.extend_from-requires-clause-parent
-extend_from-requires-clause-parent g c =
+pub row_vertices-requires-clause-vertex : goal.row_vertices-requires-clause-vertex
+row_vertices-requires-clause-vertex g c =
     let t = c.args.tree.now in
     let b = c.of-branch.result in
-    let size = ap (λ (l : List ℕ). length l) (c.loop-i.invariant.children ∙ c.requires.counted.children) in
+    let size = ap (λ (l : List ℕ). length l) c.requires.counted.children in
     omega (arith, size, length-child_counts t, parent_within t c.requires.belongs.tree b.child b.link c.of-branch.ensures.branch.link)
 
-pub extend_from-requires-clause-child : goal.extend_from-requires-clause-child
-extend_from-requires-clause-child g c =
+pub loop-v-init : goal.loop-v-init
+loop-v-init g c =
+    let q = c.args.pattern.now in
+    let t = c.args.tree.now in
+    let graph = g.G.HoldGraph.graph c.args.graph.now in
+    let b = c.of-branch.result in
+    let before = subst (λ u. IsCounted (joined q t graph) (is_after t (depth t u) u) c.args.dcg.now) (sym c.of-branch.ensures.child) c.requires.counted in
+    none_tallied q t c.requires.belongs b c.of-branch.ensures.branch graph c.args.dcg.now before
+
+pub extend_ends-requires-clause-stands : goal.extend_ends-requires-clause-stands
+extend_ends-requires-clause-stands g c =
+    let q = c.args.pattern.now in
+    let t = c.args.tree.now in
+    let graph = g.G.HoldGraph.graph c.args.graph.now in
+    let b = c.of-branch.result in
+    let before = subst (λ u. IsCounted (joined q t graph) (is_after t (depth t u) u) c.args.dcg.now) (sym c.of-branch.ensures.child) c.requires.counted in
+    let vs = c.deref-v-items.result.now in
+    let same : c.deref-v-items.result.now ≡ c.row_vertices.result.now = c.deref-v-items.ensures.value ∙ c.in_ok-vertices.ensures.items in
+    let rows = λ (v : ℕ). ap (list_any (nat_eq v)) same ∙ c.row_vertices.ensures.rows v in
+    let within : c.loop-v.v-index < length c.deref-v-items.result.now = omega (arith, c.loop-v-test.true) in
+    let some = sym (rows (slice_index vs c.loop-v.v-index)) ∙ any_at vs c.loop-v.v-index within in
+    row_stands_out q t c.requires.belongs b c.of-branch.ensures.branch graph c.args.dcg.now before (slice_index vs c.loop-v.v-index) some
+
+pub extend_ends-requires-clause-parent : goal.extend_ends-requires-clause-parent
+extend_ends-requires-clause-parent g c =
     let t = c.args.tree.now in
     let b = c.of-branch.result in
-    let size = ap (λ (l : List ℕ). length l) (c.loop-i.invariant.children ∙ c.requires.counted.children) in
+    let size = ap (λ (l : List ℕ). length l) (c.loop-v.invariant.children ∙ c.requires.counted.children) in
+    omega (arith, size, length-child_counts t, parent_within t c.requires.belongs.tree b.child b.link c.of-branch.ensures.branch.link)
+
+pub extend_ends-requires-clause-child : goal.extend_ends-requires-clause-child
+extend_ends-requires-clause-child g c =
+    let t = c.args.tree.now in
+    let b = c.of-branch.result in
+    let size = ap (λ (l : List ℕ). length l) (c.loop-v.invariant.children ∙ c.requires.counted.children) in
     omega (arith, size, length-child_counts t, link_within t b.child b.link c.of-branch.ensures.branch.link)
 
-pub extend_from-requires-clause-apart : goal.extend_from-requires-clause-apart
-extend_from-requires-clause-apart g c =
+pub extend_ends-requires-clause-apart : goal.extend_ends-requires-clause-apart
+extend_ends-requires-clause-apart g c =
     let q = c.args.pattern.now in
     let t = c.args.tree.now in
-    let over = joined q t (g.G.HoldGraph.graph c.args.graph.now) in
-    let before = subst (λ u. IsCounted over (is_after t (depth t u) u) c.args.dcg.now) (sym c.of-branch.ensures.child) c.requires.counted in
-    child_apart q t c.requires.belongs c.of-branch.result c.of-branch.ensures.branch (g.G.HoldGraph.graph c.args.graph.now) c.args.dcg.now before
+    let graph = g.G.HoldGraph.graph c.args.graph.now in
+    let b = c.of-branch.result in
+    let before = subst (λ u. IsCounted (joined q t graph) (is_after t (depth t u) u) c.args.dcg.now) (sym c.of-branch.ensures.child) c.requires.counted in
+    child_apart q t c.requires.belongs b c.of-branch.ensures.branch graph c.args.dcg.now before
 
-pub extend_from-requires-clause-number : goal.extend_from-requires-clause-number
-extend_from-requires-clause-number g c =
+pub extend_ends-requires-clause-number : goal.extend_ends-requires-clause-number
+extend_ends-requires-clause-number g c =
     let q = c.args.pattern.now in
     let t = c.args.tree.now in
-    let over = joined q t (g.G.HoldGraph.graph c.args.graph.now) in
-    let before = subst (λ u. IsCounted over (is_after t (depth t u) u) c.args.dcg.now) (sym c.of-branch.ensures.child) c.requires.counted in
-    number_counted q t c.requires.belongs c.of-branch.result c.of-branch.ensures.branch (g.G.HoldGraph.graph c.args.graph.now) c.args.dcg.now before c.loop-i.dcg.children (c.loop-i.invariant.children ∙ c.requires.counted.children)
+    let graph = g.G.HoldGraph.graph c.args.graph.now in
+    let b = c.of-branch.result in
+    let before = subst (λ u. IsCounted (joined q t graph) (is_after t (depth t u) u) c.args.dcg.now) (sym c.of-branch.ensures.child) c.requires.counted in
+    number_counted q t c.requires.belongs b c.of-branch.ensures.branch graph c.args.dcg.now before c.loop-v.dcg.children (c.loop-v.invariant.children ∙ c.requires.counted.children)
 
-pub extend_from-requires-clause-room : goal.extend_from-requires-clause-room
-extend_from-requires-clause-room g c =
+pub extend_ends-requires-clause-row : goal.extend_ends-requires-clause-row
+extend_ends-requires-clause-row g c =
     let q = c.args.pattern.now in
     let t = c.args.tree.now in
-    let graph = c.args.graph.now in
-    let over = joined q t (g.G.HoldGraph.graph graph) in
-    let before = subst (λ u. IsCounted over (is_after t (depth t u) u) c.args.dcg.now) (sym c.of-branch.ensures.child) c.requires.counted in
-    let known = c.vertex_count-i-end.ensures in
-    room_out q t c.requires.belongs c.of-branch.result c.of-branch.ensures.branch (g.G.HoldGraph.graph graph) c.args.dcg.now before
-    (g.G.HoldGraph.limits graph) known.held (g.G.HoldGraph.listed graph) known.listed c.loop-i.i c.vertex_at-v.result c.loop-i.dcg c.loop-i.invariant
+    let graph = g.G.HoldGraph.graph c.args.graph.now in
+    let b = c.of-branch.result in
+    let before = subst (λ u. IsCounted (joined q t graph) (is_after t (depth t u) u) c.args.dcg.now) (sym c.of-branch.ensures.child) c.requires.counted in
+    let vs = c.deref-v-items.result.now in
+    let same : c.deref-v-items.result.now ≡ c.row_vertices.result.now = c.deref-v-items.ensures.value ∙ c.in_ok-vertices.ensures.items in
+    let rows = λ (v : ℕ). ap (list_any (nat_eq v)) same ∙ c.row_vertices.ensures.rows v in
+    let distinct : IsDistinct nat_eq c.deref-v-items.result.now = subst (IsDistinct nat_eq) (sym same) c.row_vertices.ensures.once in
+    let inside = in_rows_out q t c.requires.belongs b c.of-branch.ensures.branch graph c.args.dcg.now before vs rows in
+    let within : c.loop-v.v-index < length c.deref-v-items.result.now = omega (arith, c.loop-v-test.true) in
+    let some = sym (rows (slice_index vs c.loop-v.v-index)) ∙ any_at vs c.loop-v.v-index within in
+    let v = slice_index vs c.loop-v.v-index in
+    some_and (HasRoomFor b.number (opens_from c.loop-v.dcg b graph v)) (row_at c.loop-v.dcg b.link.parent v)
+    (room_out q t c.requires.belongs b c.of-branch.ensures.branch graph c.args.dcg.now before (g.G.HoldGraph.limits c.args.graph.now) c.edge_count-count.ensures.held vs distinct inside c.loop-v.v-index v c.loop-v.dcg c.loop-v.invariant)
+    (stays_there q t c.requires.belongs b c.of-branch.ensures.branch graph c.args.dcg.now before (take c.loop-v.v-index vs) c.loop-v.dcg v c.loop-v.invariant some)
 
-pub loop-i-preserved : goal.loop-i-preserved
-loop-i-preserved g c =
+pub loop-v-preserved : goal.loop-v-preserved
+loop-v-preserved g c =
     let q = c.args.pattern.now in
     let t = c.args.tree.now in
-    let graph = c.args.graph.now in
-    let over = joined q t (g.G.HoldGraph.graph graph) in
-    let before = subst (λ u. IsCounted over (is_after t (depth t u) u) c.args.dcg.now) (sym c.of-branch.ensures.child) c.requires.counted in
-    let known = c.vertex_count-i-end.ensures in
-    tallied_further q t c.requires.belongs c.of-branch.result c.of-branch.ensures.branch (g.G.HoldGraph.graph graph) c.args.dcg.now before
-    (g.G.HoldGraph.limits graph) known.held (g.G.HoldGraph.listed graph) known.listed c.loop-i.i c.vertex_at-v.result c.loop-i.dcg c.extend_from.new.dcg c.vertex_at-v.ensures.id c.loop-i.invariant c.extend_from.ensures
+    let graph = g.G.HoldGraph.graph c.args.graph.now in
+    let b = c.of-branch.result in
+    let before = subst (λ u. IsCounted (joined q t graph) (is_after t (depth t u) u) c.args.dcg.now) (sym c.of-branch.ensures.child) c.requires.counted in
+    let vs = c.deref-v-items.result.now in
+    let same : c.deref-v-items.result.now ≡ c.row_vertices.result.now = c.deref-v-items.ensures.value ∙ c.in_ok-vertices.ensures.items in
+    let rows = λ (v : ℕ). ap (list_any (nat_eq v)) same ∙ c.row_vertices.ensures.rows v in
+    let distinct : IsDistinct nat_eq c.deref-v-items.result.now = subst (IsDistinct nat_eq) (sym same) c.row_vertices.ensures.once in
+    let inside = in_rows_out q t c.requires.belongs b c.of-branch.ensures.branch graph c.args.dcg.now before vs rows in
+    let within : c.loop-v.v-index < length c.deref-v-items.result.now = omega (arith, c.loop-v-test.true) in
+    tallied_further q t c.requires.belongs b c.of-branch.ensures.branch graph c.args.dcg.now before (g.G.HoldGraph.limits c.args.graph.now) c.edge_count-count.ensures.held vs distinct inside c.loop-v.v-index (slice_index vs c.loop-v.v-index) c.loop-v.dcg c.extend_ends.new.dcg (slice_get-get_or vs c.loop-v.v-index 0 within) c.loop-v.invariant c.extend_ends.ensures
 
 pub returns : goal.returns
 returns g c =
     let q = c.args.pattern.now in
     let t = c.args.tree.now in
-    let graph = c.args.graph.now in
-    let over = joined q t (g.G.HoldGraph.graph graph) in
-    let before = subst (λ u. IsCounted over (is_after t (depth t u) u) c.args.dcg.now) (sym c.of-branch.ensures.child) c.requires.counted in
-    let known = c.vertex_count-i-end.ensures in
-    let all = length_permutation (g.G.HoldGraph.listed graph) (ids (g.G.HoldGraph.graph graph)) known.listed in
-    let count = length-map (g.G.HoldGraph.graph graph).vertices (λ (v : Vertex). v.id) in
-    subst (λ u. IsCounted over (is_after t (depth t u) (u + 1)) c.loop-i.dcg) c.of-branch.ensures.child
-    (child_counted q t c.requires.belongs c.of-branch.result c.of-branch.ensures.branch (g.G.HoldGraph.graph graph) c.args.dcg.now before
-    (g.G.HoldGraph.limits graph) known.held (g.G.HoldGraph.listed graph) known.listed c.loop-i.i c.loop-i.dcg (omega (arith, all, count, known.count, c.loop-i-test.false)) c.loop-i.invariant)
+    let graph = g.G.HoldGraph.graph c.args.graph.now in
+    let b = c.of-branch.result in
+    let before = subst (λ u. IsCounted (joined q t graph) (is_after t (depth t u) u) c.args.dcg.now) (sym c.of-branch.ensures.child) c.requires.counted in
+    let vs = c.deref-v-items.result.now in
+    let same : c.deref-v-items.result.now ≡ c.row_vertices.result.now = c.deref-v-items.ensures.value ∙ c.in_ok-vertices.ensures.items in
+    let rows = λ (v : ℕ). ap (list_any (nat_eq v)) same ∙ c.row_vertices.ensures.rows v in
+    let distinct : IsDistinct nat_eq c.deref-v-items.result.now = subst (IsDistinct nat_eq) (sym same) c.row_vertices.ensures.once in
+    let inside = in_rows_out q t c.requires.belongs b c.of-branch.ensures.branch graph c.args.dcg.now before vs rows in
+    subst (λ u. IsCounted (joined q t graph) (is_after t (depth t u) (u + 1)) c.loop-v.dcg) c.of-branch.ensures.child
+    (child_counted q t c.requires.belongs b c.of-branch.ensures.branch graph c.args.dcg.now before (g.G.HoldGraph.limits c.args.graph.now) c.edge_count-count.ensures.held vs distinct inside c.loop-v.v-index c.loop-v.dcg (omega (arith, c.loop-v-test.false)) c.loop-v.invariant)

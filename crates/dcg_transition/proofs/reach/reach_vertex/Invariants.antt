@@ -4,7 +4,7 @@ use Rattle.dcg_transition.specs.Branches.{joins_from}
 use Rattle.dcg_transition.specs.Filled.{HasMoreIns}
 use Rattle.dcg_transition.proofs.reach.reach_vertex.Given as goal
 
--- the joints from the vertices that are listed before place i lead in
-abbrev pub invariant-loop-i : goal.invariant-loop-i
-invariant-loop-i g l =
-    HasMoreIns l.branch.child (λ w. sum_by (joins_from l.fn.dcg l.branch (g.G.HoldGraph.graph l.graph) w) (take l.i (g.G.HoldGraph.listed l.graph))) l.fn.dcg l.dcg
+-- the joints from the vertices before the index lead in
+abbrev pub invariant-loop-v : goal.invariant-loop-v
+invariant-loop-v g l =
+    HasMoreIns l.branch.child (λ w. sum_by (joins_from l.fn.dcg l.branch (g.G.HoldGraph.graph l.graph) w) (take l.v-index l.v-items)) l.fn.dcg l.dcg
