@@ -15,7 +15,7 @@ use Rattle.flux_model.specs.States.{Joined, joined, reaches, extends, is_explici
 use Rattle.flux_model.specs.Exact.{Row, StateRows, row_at, in_count, out_count, row_of, IsExactOver}
 use Rattle.flux_model.specs.declared.limits.Limits.{Limits}
 use Rattle.flux_model.specs.declared.tree.TreeLink.{TreeLink}
-use Rattle.label_graph.specs.Held.{IsHeld}
+use Rattle.graph_traits.specs.Held.{IsHeld}
 use Rattle.query_tree.specs.Depth.{depth}
 use Rattle.query_tree.proofs.CallerLemmas.{depth-below, child_once, parent_within}
 use Rattle.dcg_store.proofs.ListLemmas.{In}

@@ -19,7 +19,7 @@ use Rattle.flux_model.specs.declared.graph.Triple.{Triple}
 use Rattle.flux_model.specs.declared.pattern.PatternEdge.{PatternEdge}
 use Rattle.flux_model.specs.declared.limits.Limits.{Limits}
 use Rattle.flux_model.specs.declared.tree.TreeLink.{TreeLink}
-use Rattle.label_graph.specs.Held.{IsHeld}
+use Rattle.graph_traits.specs.Held.{IsHeld}
 use Rattle.query_tree.specs.Depth.{depth}
 use Rattle.query_tree.proofs.CallerLemmas.{link_within, depth-below}
 use Rattle.dcg_store.proofs.ListLemmas.{In, some_counted, found_in, list_any-in}

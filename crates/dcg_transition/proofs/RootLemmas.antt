@@ -17,7 +17,7 @@ use Rattle.flux_model.specs.States.{Joined, joined, reaches}
 use Rattle.flux_model.specs.Exact.{Row, StateRows, pair_cmp, row_at, in_count}
 use Rattle.flux_model.specs.declared.graph.Vertex.{Vertex}
 use Rattle.flux_model.specs.declared.limits.Limits.{Limits}
-use Rattle.label_graph.specs.Held.{IsHeld}
+use Rattle.graph_traits.specs.Held.{IsHeld}
 use Rattle.query_tree.specs.Depth.{depth}
 use Rattle.query_tree.proofs.CallerLemmas.{depth-root}
 use Rattle.dcg_store.specs.Moves.{in_raised}

@@ -4,8 +4,8 @@ use Rattle.std.specs.Str.{bytes_eq}
 use Rattle.flux_model.specs.Graph.{Graph}
 use Rattle.flux_model.specs.declared.graph.Triple.{Triple}
 use Rattle.flux_model.specs.declared.pattern.PatternEdge.{PatternEdge}
-use Rattle.label_graph.specs.Rows.{triples_from, triples_to}
-use Rattle.label_graph.specs.declared.spot.Spot.{Spot}
+use Rattle.graph_traits.specs.Rows.{triples_from, triples_to}
+use Rattle.graph_traits.specs.declared.spot.Spot.{Spot}
 use Rattle.dcg_transition.specs.declared.direction.Direction.{Direction}
 use Rattle.dcg_transition.specs.declared.direction.Direction.TheVariants.{Out, In}
 use Rattle.dcg_transition.specs.declared.graph_row.GraphRow.{GraphRow}

@@ -1,13 +1,13 @@
 //! `Branch`: the tree edge that a pattern vertex hangs by.
 ghost use Rattle.std.specs.Prelude.{◌≡◌, ◌≢◌, ◌<◌, length};
 ghost use Rattle.flux_model.specs.Tree.{BelongsTo};
-ghost use Rattle.label_graph.specs.Numbers.{IsNumberOf};
+ghost use Rattle.graph_traits.specs.Numbers.{IsNumberOf};
 ghost use Rattle.dcg_transition.specs.Branches.{IsBranchOf, row_along};
 
 use crate::direction::Direction;
 use crate::graph_row::GraphRow;
 use flux_model::{Labels, Pattern, Text, TreeLink};
-use label_graph::HoldGraph;
+use graph_traits::HoldGraph;
 use query_tree::QueryTree;
 
 /// The tree edge that a pattern vertex hangs by, as it is walked down from the parent.

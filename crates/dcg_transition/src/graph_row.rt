@@ -2,12 +2,12 @@
 ghost use Rattle.std.specs.Prelude.{◌≡◌, ◌+◌, ◌<◌, ◌≤◌, [], ◌∷◌, Some, length, IsTrue, IfSome, MatchOption, IsPermutation};
 ghost use Rattle.std.specs.Str.{bytes_eq};
 ghost use Rattle.flux_model.specs.Graph.{has_vertex};
-ghost use Rattle.label_graph.specs.Numbers.{IsNumberOf};
+ghost use Rattle.graph_traits.specs.Numbers.{IsNumberOf};
 ghost use Rattle.dcg_transition.specs.Ends.{triple_of, whole_row, row_from, ends_from, IsPlaceOf};
 
 use crate::direction::Direction;
 use flux_model::{Ledger, Steps, Text};
-use label_graph::{HoldGraph, ReadGraph, Spot, Turn};
+use graph_traits::{HoldGraph, ReadGraph, Spot, Turn};
 
 /// The row of a vertex of the graph in a direction, of which the triples of one label count.
 ///

@@ -4,7 +4,7 @@ ghost use Rattle.std.specs.FinMap.{empty};
 ghost use Rattle.flux_model.specs.Graph.{has_vertex};
 ghost use Rattle.flux_model.specs.Tree.{BelongsTo};
 ghost use Rattle.flux_model.specs.States.{joined};
-ghost use Rattle.label_graph.specs.Numbers.{IsNumberOf};
+ghost use Rattle.graph_traits.specs.Numbers.{IsNumberOf};
 ghost use Rattle.query_tree.specs.Depth.{depth};
 ghost use Rattle.dcg_transition.specs.Branches.{joins_to, HasRoomToJoin};
 ghost use Rattle.dcg_transition.specs.Filled.{child_counts, AreBegun, HasMoreIns};
@@ -13,7 +13,7 @@ ghost use Rattle.dcg_transition.specs.Levels.{depths_of, IsReachedTo, IsCounted}
 use crate::branch::Branch;
 use dcg_store::Dcg;
 use flux_model::{Ledger, Pattern, Steps};
-use label_graph::{HoldGraph, ReadGraph};
+use graph_traits::{HoldGraph, ReadGraph};
 use query_tree::QueryTree;
 use std::alloc::{AllocError, Global};
 

@@ -8,7 +8,7 @@ use crate::levels::{child_counts, depths};
 use crate::reach::reach;
 use dcg_store::Dcg;
 use flux_model::{Ledger, Pattern, Steps};
-use label_graph::ReadGraph;
+use graph_traits::ReadGraph;
 use query_tree::QueryTree;
 use std::alloc::{AllocError, Global};
 

@@ -13,8 +13,8 @@ use Rattle.flux_model.specs.declared.graph.Vertex.{Vertex}
 use Rattle.flux_model.specs.declared.graph.Triple.{Triple}
 use Rattle.flux_model.specs.declared.limits.Limits.{Limits}
 use Rattle.flux_model.specs.declared.pattern.PatternEdge.{PatternEdge}
-use Rattle.label_graph.specs.Held.{IsHeld}
-use Rattle.label_graph.specs.Rows.{triples_from}
+use Rattle.graph_traits.specs.Held.{IsHeld}
+use Rattle.graph_traits.specs.Rows.{triples_from}
 use Rattle.label_cards.specs.Counted.{vertex_adds, row_adds}
 use Rattle.label_cards.proofs.SumLemmas.{sum_of_rows}
 use Rattle.label_cards.proofs.FitLemmas.{fits_at}

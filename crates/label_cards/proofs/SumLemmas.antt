@@ -14,7 +14,7 @@ use Rattle.flux_model.specs.Ordered.{is_ascending, is_in}
 use Rattle.flux_model.specs.declared.graph.Vertex.{Vertex}
 use Rattle.flux_model.specs.declared.graph.Triple.{Triple}
 use Rattle.flux_model.proofs.OrderedLemmas.{in-less, ascending_rest}
-use Rattle.label_graph.specs.Rows.{triples_from}
+use Rattle.graph_traits.specs.Rows.{triples_from}
 
 -- ---- sums
 

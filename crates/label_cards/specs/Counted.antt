@@ -4,7 +4,7 @@ use Rattle.flux_model.specs.Graph.{Graph}
 use Rattle.flux_model.specs.Pattern.{PatternGraph, fits_labels, fits, fits_edge}
 use Rattle.flux_model.specs.Tree.{edge_at}
 use Rattle.flux_model.specs.declared.graph.Triple.{Triple}
-use Rattle.label_graph.specs.Rows.{triples_from}
+use Rattle.graph_traits.specs.Rows.{triples_from}
 
 -- for each vertex of the pattern, whether v fits it
 abbrev pub fits_of : PatternGraph → Graph → ℕ → List Bool

@@ -7,7 +7,7 @@ ghost use Rattle.label_cards.specs.Counted.{fits_of, vertex_adds, GrownBy, HasRo
 
 use crate::row::count_row;
 use flux_model::{Cards, Ledger, Pattern, Steps};
-use label_graph::{HoldGraph, ReadGraph};
+use graph_traits::{HoldGraph, ReadGraph};
 use std::alloc::{AllocError, Global};
 
 /// How many triples of the graph fit each edge of the pattern, and how many of its vertices fit each vertex of the pattern.

@@ -2,11 +2,11 @@
 ghost use Rattle.std.specs.Prelude.{◌≡◌, ◌<◌, length, IsTrue};
 ghost use Rattle.flux_model.specs.Graph.{has_vertex};
 ghost use Rattle.flux_model.specs.Pattern.{HasEnds, vertex_count, fits_edge};
-ghost use Rattle.label_graph.specs.Rows.{triples_from};
+ghost use Rattle.graph_traits.specs.Rows.{triples_from};
 ghost use Rattle.label_cards.specs.Counted.{fits_of, triple_adds, row_adds, GrownBy, HasRoom};
 
 use flux_model::{Ledger, Pattern, PatternEdge, Steps};
-use label_graph::{HoldGraph, ReadGraph, Turn};
+use graph_traits::{HoldGraph, ReadGraph, Turn};
 
 /// Adds to the count of each edge of the pattern how many triples that begin at `v` fit it.
 ///

@@ -21,7 +21,8 @@ use Rattle.label_graph.specs.Sorted.{In, sorted}
 use Rattle.label_graph.specs.Store.{triple_of, kept_graph, IsNamed}
 use Rattle.label_graph.proofs.TableLemmas.{tell_text}
 use Rattle.label_graph.proofs.SortedLemmas.{ascending_same, sorted_ascending, sorted_in, in_sorted, put_in, in_put, in_any, any_in, in_mapped, mapped_in, length_sorted, IsApart}
-use Rattle.label_graph.proofs.StoreLemmas.{vertex_total, triple_total, triple_exact, self_equal, is_equal, count_cons, count_in, known_label, known_slot, text_of_slot}
+use Rattle.label_graph.proofs.StoreLemmas.{vertex_total, triple_total, self_equal, count_cons, count_in, known_label, known_slot, text_of_slot}
+use Rattle.graph_traits.proofs.NumberLemmas.{triple_exact, is_equal}
 
 abbrev pub text_list : List (Option Name) → List (List ℕ)
 text_list [] = []

@@ -21,7 +21,8 @@ use Rattle.label_graph.specs.Store.{triple_of, kept_graph, IsNamed}
 use Rattle.label_graph.specs.Known.{known_stands}
 use Rattle.label_graph.proofs.PlaceLemmas.{link_same, link_refl}
 use Rattle.label_graph.proofs.SortedLemmas.{in_any, mapped_in, length_sorted, IsApart}
-use Rattle.label_graph.proofs.StoreLemmas.{known_label, has_triple_found, has_triple_unknown, triple_tells, triple_exact, triple_total}
+use Rattle.label_graph.proofs.StoreLemmas.{known_label, has_triple_found, has_triple_unknown, triple_tells, triple_total}
+use Rattle.graph_traits.proofs.NumberLemmas.{triple_exact}
 
 -- ---- the answers of the definition, case by case
 

@@ -5,20 +5,19 @@ use Rattle.std.specs.Prelude.{MatchOption, IfNone, unwrap_or}
 use Rattle.std.specs.List.{filter, list_any}
 use Rattle.std.specs.Str.{bytes_eq}
 use Rattle.std.specs.Cmp.Lexicographic.{bytes_decides}
-use Rattle.std.specs.Ordering.{is_eq}
-use Rattle.flux_model.specs.Graph.{Graph, triple_cmp, has_triple}
+use Rattle.flux_model.specs.Graph.{triple_cmp}
 use Rattle.flux_model.specs.declared.graph.Vertex.{Vertex}
 use Rattle.flux_model.specs.declared.graph.Triple.{Triple}
 use Rattle.label_graph.specs.declared.link.Link.{Link}
 use Rattle.label_graph.specs.declared.names.Name.{Name}
 use Rattle.label_graph.specs.Names.{text_at, IsTable, IsUnknown}
-use Rattle.label_graph.specs.Numbers.{LacksLabel, has_triple_by, IsNumberIn}
+use Rattle.graph_traits.specs.Numbers.{LacksLabel, has_triple_by}
 use Rattle.label_graph.specs.Places.{link_eq}
 use Rattle.label_graph.specs.Sorted.{In, sorted}
 use Rattle.label_graph.specs.Store.{triple_of, kept_graph, IsNamed}
 use Rattle.label_graph.proofs.PlaceLemmas.{link_same}
 use Rattle.label_graph.proofs.SortedLemmas.{in_any, mapped_in, sorted_in}
-use Rattle.label_graph.proofs.StoreLemmas.{triple_total, triple_exact, is_equal, known_label, text_of_slot, has_triple_found}
+use Rattle.label_graph.proofs.StoreLemmas.{triple_total, known_label, text_of_slot, has_triple_found}
 
 none_pass : {X : Type 0} (p : X → Bool) (xs : List X) → ((x : X) → In xs x → p x ≡ false) → filter p xs ≡ []
 none_pass p [] h = refl
@@ -60,24 +59,3 @@ module _ (names : List (Option Name)) (vertices : List Vertex) (links : List Lin
       by : (o : Option (List ℕ)) → text_at names k.label ≡ o → list_any (link_eq k) links ≡ has_triple_by (kept_graph names vertices links) o k.src k.dst
       by None e = none_stands e (list_any (link_eq k) links) refl
       by (Some text) e = sym (has_triple_found names vertices links n tab k text e)
-
--- ---- for callers
-
-none_equal : (t : Triple) (ts : List Triple) → LacksLabel t.label ts → list_any (λ s. is_eq (triple_cmp t s)) ts ≡ false
-none_equal t [] h = refl
-none_equal t (s ∷ ts) h = by (bytes_eq t.label s.label) refl h (none_equal t ts) (is_eq (triple_cmp t s)) refl
-  where
-    by : (b : Bool) → bytes_eq t.label s.label ≡ b → LacksLabel t.label (s ∷ ts) → (LacksLabel t.label ts → list_any (λ s. is_eq (triple_cmp t s)) ts ≡ false) →
-        (e : Bool) → is_eq (triple_cmp t s) ≡ e → list_any (λ s. is_eq (triple_cmp t s)) (s ∷ ts) ≡ false
-    by true q l ih e p = let r = rw q at l in cc
-    by false q l ih true p =
-        let same = triple_exact t s (is_equal (triple_cmp t s) p) in
-        let yes = (bytes_decides t.label s.label).1 (ap (λ (z : Triple). z.label) same) in cc
-    by false q l ih false p = rw p (ih (rw q at l))
-
--- whether a triple stands, by the number that the store has for its label
-pub lacks_triple : (texts : ℕ → Option (List ℕ)) (g : Graph) (label : List ℕ) (src dst : ℕ) → IsNumberIn texts g label None → false ≡ has_triple g (record { src = src; label = label; dst = dst })
-lacks_triple texts g label src dst h = sym (none_equal (record { src = src; label = label; dst = dst }) g.triples h.absent)
-
-pub has_triple_by_number : (texts : ℕ → Option (List ℕ)) (g : Graph) (label : List ℕ) (n src dst : ℕ) → IsNumberIn texts g label (Some n) → has_triple_by g (texts n) src dst ≡ has_triple g (record { src = src; label = label; dst = dst })
-has_triple_by_number texts g label n src dst h = ap (λ o. has_triple_by g o src dst) ((h.tells n).1 refl)

@@ -22,7 +22,7 @@ use Rattle.label_graph.specs.declared.link.Link.{Link}
 use Rattle.label_graph.specs.declared.link.Node.{Node}
 use Rattle.label_graph.specs.declared.names.Name.{Name}
 use Rattle.label_graph.specs.Places.{vertex_of}
-use Rattle.label_graph.specs.Rows.{vertex_at}
+use Rattle.graph_traits.specs.Rows.{vertex_at}
 use Rattle.label_graph.specs.Sorted.{In, sorted}
 use Rattle.label_graph.specs.Store.{kept_graph, IsNamed}
 use Rattle.label_graph.proofs.SortedLemmas.{in_any, any_in, mapped_in, in_mapped, in_sorted, sorted_in, sorted_ascending, ascending_apart}

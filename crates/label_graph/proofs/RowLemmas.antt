@@ -21,14 +21,15 @@ use Rattle.label_graph.specs.declared.link.Node.{Node}
 use Rattle.label_graph.specs.declared.names.Name.{Name}
 use Rattle.label_graph.specs.Names.{slot, IsTable}
 use Rattle.label_graph.specs.Places.{AreInverse, ArePlaced, link_at, vertex_of, outs, outs_of, ins, ins_of, out_link, in_link, link_eq}
-use Rattle.label_graph.specs.Rows.{triples_from, triples_to}
+use Rattle.graph_traits.specs.Rows.{triples_from, triples_to}
 use Rattle.label_graph.specs.Sorted.{In, sorted}
 use Rattle.label_graph.specs.Store.{triple_of, kept_graph, row_from, IsNamed}
 use Rattle.label_graph.proofs.CountLemmas.{in_append, append_left, append_right}
 use Rattle.label_graph.proofs.NodeLemmas.{stands_out, stands_in}
 use Rattle.label_graph.proofs.PlaceLemmas.{link_same, link_refl, IsSome-mapped, option_map_some}
 use Rattle.label_graph.proofs.SortedLemmas.{in_any, any_in, mapped_in, in_mapped, in_filter, filter_in, in_sorted, sorted_in, sorted_ascending, filter_ascending, ascending_apart, IsApart}
-use Rattle.label_graph.proofs.StoreLemmas.{triple_total, triple_exact, triple_tells, known_label, has_vertex_of}
+use Rattle.label_graph.proofs.StoreLemmas.{triple_total, triple_tells, known_label, has_vertex_of}
+use Rattle.graph_traits.proofs.NumberLemmas.{triple_exact}
 
 -- ---- lists without repeats
 

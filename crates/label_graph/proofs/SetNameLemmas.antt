@@ -15,7 +15,8 @@ use Rattle.label_graph.specs.Names.{slot, text_at, uses_of, lowered, IsUnknown, 
 use Rattle.label_graph.specs.SetNames.{is_known, raised_in, lowered_in, IsRaised}
 use Rattle.label_graph.specs.Sorted.{In}
 use Rattle.label_graph.proofs.SortedLemmas.{in_any, ascending_apart, tail_ascending}
-use Rattle.label_graph.proofs.StoreLemmas.{self_equal, is_equal, known_slot, text_of_slot}
+use Rattle.label_graph.proofs.StoreLemmas.{self_equal, known_slot, text_of_slot}
+use Rattle.graph_traits.proofs.NumberLemmas.{is_equal}
 use Rattle.label_graph.proofs.TableLemmas.{same_name}
 
 -- ---- sets

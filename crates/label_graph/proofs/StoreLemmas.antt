@@ -5,11 +5,11 @@ use Rattle.std.specs.List.{filter, list_any}
 use Rattle.std.specs.Map.{lookup, keys_of}
 use Rattle.std.specs.declared.cmp.Ordering.{Ordering}
 use Rattle.std.specs.declared.cmp.Ordering.TheVariants.{Less, Equal, Greater}
-use Rattle.std.specs.Ordering.{nat_cmp, is_eq, ordering_then, ordering_reverse}
+use Rattle.std.specs.Ordering.{is_eq, ordering_reverse}
 use Rattle.std.specs.Cmp.{IsTotalOrder, nat_cmp_total, on_total, nat_eq_equiv}
 use Rattle.std.specs.Cmp.Lexicographic.{nat_list_cmp_total}
 use Rattle.std.proofs.lemmas.Cmp.{then_total}
-use Rattle.std.proofs.lemmas.Map.Lookups.{exact_bytes, exact_unsigned}
+use Rattle.std.proofs.lemmas.Map.Lookups.{exact_unsigned}
 use Rattle.std.proofs.lemmas.Map.Made.{is_some-lookup}
 use Rattle.std.proofs.lemmas.Bool.{cases_eq, ne_eqb, eq-eqb, cases_lt, le-leb, lt-leb, true≢false, and_from}
 use Rattle.std.proofs.lemmas.Option.{none-some, same_Some}
@@ -21,6 +21,7 @@ use Rattle.flux_model.specs.Ordered.{is_in, put}
 use Rattle.flux_model.specs.declared.graph.Vertex.{Vertex}
 use Rattle.flux_model.specs.declared.graph.Triple.{Triple}
 use Rattle.flux_model.specs.declared.code.Code.TheVariants as code
+use Rattle.graph_traits.proofs.NumberLemmas.{triple_exact, is_equal}
 use Rattle.label_graph.specs.declared.link.Link.{Link}
 use Rattle.label_graph.specs.declared.link.Node.{Node}
 use Rattle.label_graph.specs.declared.link.Turn.{Turn}
@@ -42,20 +43,6 @@ vertex_total = on_total (λ (v : Vertex). v.id) nat_cmp_total
 pub triple_total : IsTotalOrder triple_cmp
 triple_total = then_total (on_total (λ (t : Triple). t.src) nat_cmp_total) (then_total (on_total (λ (t : Triple). t.label) nat_list_cmp_total) (on_total (λ (t : Triple). t.dst) nat_cmp_total))
 
-then_equal : (r s : Ordering) → ordering_then r s ≡ Equal → (r ≡ Equal) × (s ≡ Equal)
-then_equal Less s e = cc
-then_equal Equal s e = (refl, e)
-then_equal Greater s e = cc
-
-same_triple : (a : ℕ) (b : List ℕ) (c x : ℕ) (y : List ℕ) (z : ℕ) → a ≡ x → b ≡ y → c ≡ z → ◌≡◌ {A = Triple} (record { src = a; label = b; dst = c }) (record { src = x; label = y; dst = z })
-same_triple a b c x y z p q r = cc
-
-pub triple_exact : (s t : Triple) → triple_cmp s t ≡ Equal → s ≡ t
-triple_exact s t e =
-    let p = then_equal (nat_cmp s.src t.src) (ordering_then (text_cmp s.label t.label) (nat_cmp s.dst t.dst)) e in
-    let q = then_equal (text_cmp s.label t.label) (nat_cmp s.dst t.dst) p.1 in
-    same_triple _ _ _ _ _ _ (exact_unsigned s.src t.src p.0) (exact_bytes s.label t.label q.0) (exact_unsigned s.dst t.dst q.1)
-
 pub self_equal : {X : Type 0} (R : X → X → Ordering) → IsTotalOrder R → (x : X) → R x x ≡ Equal
 self_equal R o x = by (R x x) (o.antisymm x x)
   where
@@ -63,11 +50,6 @@ self_equal R o x = by (R x x) (o.antisymm x x)
     by Less e = cc
     by Equal e = refl
     by Greater e = cc
-
-pub is_equal : (r : Ordering) → is_eq r ≡ true → r ≡ Equal
-is_equal Less e = cc
-is_equal Equal e = refl
-is_equal Greater e = cc
 
 -- ---- counts
 

@@ -26,7 +26,8 @@ use Rattle.label_graph.specs.Store.{triple_of, kept_graph}
 use Rattle.label_graph.proofs.LinkLemmas.{same_placed}
 use Rattle.label_graph.proofs.PlaceLemmas.{link_same, link_refl, option_map_some, IsSome-mapped}
 use Rattle.label_graph.proofs.SortedLemmas.{any_sorted, any_in, in_any}
-use Rattle.label_graph.proofs.StoreLemmas.{triple_total, triple_exact, any_vertex}
+use Rattle.label_graph.proofs.StoreLemmas.{triple_total, any_vertex}
+use Rattle.graph_traits.proofs.NumberLemmas.{triple_exact}
 
 -- ---- a node taken away
 

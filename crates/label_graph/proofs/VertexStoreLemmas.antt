@@ -17,7 +17,7 @@ use Rattle.label_graph.specs.declared.link.Link.{Link}
 use Rattle.label_graph.specs.declared.link.Node.{Node}
 use Rattle.label_graph.specs.declared.link.Places.{Places}
 use Rattle.label_graph.specs.declared.names.Name.{Name}
-use Rattle.label_graph.specs.Held.{IsHeld}
+use Rattle.graph_traits.specs.Held.{IsHeld}
 use Rattle.label_graph.specs.Names.{slot}
 use Rattle.label_graph.specs.Places.{ArePlaced, vertex_of, outs, ins}
 use Rattle.label_graph.specs.SetNames.{lowered_in, IsRaised}

@@ -1,7 +1,3 @@
-pub mod Rows
-pub mod Numbers
-pub mod Held
-pub mod Changes
 pub mod Places
 pub mod Sorted
 pub mod Names

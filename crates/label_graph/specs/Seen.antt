@@ -5,7 +5,7 @@ use Rattle.flux_model.specs.Graph.{Graph}
 use Rattle.flux_model.specs.declared.graph.Triple.{Triple}
 use Rattle.label_graph.specs.Places.{vertex_of, outs, ins, out_link, in_link}
 use Rattle.label_graph.specs.Store.{kept_graph, row_from}
-use Rattle.label_graph.specs.declared.spot.Spot.{Spot}
+use Rattle.graph_traits.specs.declared.spot.Spot.{Spot}
 use Rattle.label_graph.specs.declared.store.LabelGraph.{LabelGraph}
 
 abbrev pub graph_in : LabelGraph → Graph

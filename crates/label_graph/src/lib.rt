@@ -1,12 +1,7 @@
 //! Graphs in the form that an index runs on: ids found by hashing, and for each vertex the row of its outgoing triples and
 //! the row of its incoming ones.
 //!
-//! Code above is generic over three traits:
-//!
-//! - `hold`: `HoldGraph`, what a store means: a graph, and the limits that it is kept under.
-//! - `read`: `ReadGraph`, the reads of the content, each of which counts one step, with `Turn`, what a row has at a place.
-//! - `keep`: `KeepGraph`, the changes, with their refusals.
-//! - `spot`: `Spot`, a place in a row.
+//! The traits of `graph_traits` are handed on.
 //!
 //! The store:
 //!
@@ -19,22 +14,15 @@
 #![tactic(auto)]
 
 mod hashed;
-mod hold;
-mod keep;
 mod link;
 mod links;
 mod names;
 mod place;
-mod read;
 mod row;
-mod spot;
 mod step;
 mod store;
 
-pub use hold::HoldGraph;
-pub use keep::KeepGraph;
-pub use read::{ReadGraph, Turn};
-pub use spot::Spot;
+pub use graph_traits::{HoldGraph, KeepGraph, ReadGraph, Spot, Turn};
 pub use store::LabelGraph;
 
 #[cfg(test)]

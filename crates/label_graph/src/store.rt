@@ -4,7 +4,7 @@ ghost use Rattle.std.specs.Map.{keys_of};
 ghost use Rattle.std.proofs.Props.{props};
 ghost use Rattle.flux_model.specs.Graph.{empty_graph};
 ghost use Rattle.flux_model.specs.Limits.{IsFair};
-ghost use Rattle.label_graph.specs.Held.{IsHeld};
+ghost use Rattle.graph_traits.specs.Held.{IsHeld};
 ghost use Rattle.label_graph.specs.Places.{ArePlaced, vertex_of};
 ghost use Rattle.label_graph.specs.Store.{IsNamed, kept_graph};
 

@@ -3,7 +3,7 @@ use Rattle.std.specs.Prelude.{◌≡◌, ◌<◌, ℕ, List, Option, None, lengt
 use Rattle.flux_model.specs.Graph.{Graph}
 use Rattle.flux_model.specs.Pattern.{PatternGraph}
 use Rattle.flux_model.specs.Tree.{edge_at}
-use Rattle.label_graph.specs.Numbers.{IsNumberIn}
+use Rattle.graph_traits.specs.Numbers.{IsNumberIn}
 
 -- each edge below the count has its number
 abbrev pub AreNumbered : (ℕ → Option (List ℕ)) → Graph → PatternGraph → ℕ → List (Option ℕ) → Type 0

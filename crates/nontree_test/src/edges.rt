@@ -4,11 +4,11 @@ ghost use Rattle.flux_model.specs.Partial.{id_of, with_id, edge_joins, joins};
 ghost use Rattle.flux_model.specs.Pattern.{HasEnds, vertex_count};
 ghost use Rattle.flux_model.specs.Tree.{BelongsTo};
 ghost use Rattle.flux_model.specs.Graph.{has_triple};
-ghost use Rattle.label_graph.specs.Numbers.{IsNumberIn};
+ghost use Rattle.graph_traits.specs.Numbers.{IsNumberIn};
 ghost use Rattle.nontree_test.specs.Numbered.{AreNumbersOf};
 
 use flux_model::{Ledger, Partial, Pattern, PatternEdge, Steps, Text};
-use label_graph::{HoldGraph, ReadGraph};
+use graph_traits::{HoldGraph, ReadGraph};
 use query_tree::QueryTree;
 
 /// Whether, with `x` for `w`, every non-tree edge between `w` and `w` or a vertex that has an id has its triple.

@@ -3,7 +3,7 @@ ghost use Rattle.std.specs.Prelude.{IfOk};
 ghost use Rattle.nontree_test.specs.Numbered.{AreNumbersOf};
 
 use flux_model::Pattern;
-use label_graph::HoldGraph;
+use graph_traits::HoldGraph;
 use std::alloc::{AllocError, Global};
 
 /// The numbers that the graph has for the labels of the pattern's edges, edge by edge. They serve while it is unchanged.

@@ -12,7 +12,7 @@ ghost use Rattle.pattern_registry.specs.Spent.{MeetNoDeadEnd, full_costs};
 use crate::index::PatternIndex;
 use dcg_store::Dcg;
 use flux_model::{Delta, Deltas, Ledger, Maps, Patterns, Steps};
-use label_graph::ReadGraph;
+use graph_traits::ReadGraph;
 use query_tree::QueryTree;
 use std::alloc::{AllocError, Global};
 use std::marker::Model;

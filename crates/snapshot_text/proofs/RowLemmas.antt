@@ -13,7 +13,7 @@ use Rattle.std.proofs.lemmas.Option.{slice_get-map, slice_get-get_or}
 use Rattle.flux_model.specs.Text.{text_cmp}
 use Rattle.flux_model.specs.Graph.{Graph, IsGraph, triple_cmp}
 use Rattle.flux_model.specs.declared.graph.Triple.{Triple}
-use Rattle.label_graph.specs.Rows.{triples_from}
+use Rattle.graph_traits.specs.Rows.{triples_from}
 use Rattle.snapshot_text.specs.Row.{edge_triple}
 use Rattle.snapshot_text.specs.declared.row.RowEdge.{RowEdge}
 use Rattle.snapshot_text.proofs.OrderLemmas.{triple_total, same_triple}

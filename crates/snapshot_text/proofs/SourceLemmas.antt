@@ -13,7 +13,7 @@ use Rattle.flux_model.specs.Graph.{Graph, IsGraph, ids, has_vertex, has_both_end
 use Rattle.flux_model.specs.GraphText.{triple_line}
 use Rattle.flux_model.specs.declared.graph.Triple.{Triple}
 use Rattle.flux_model.specs.declared.graph.Vertex.{Vertex}
-use Rattle.label_graph.specs.Rows.{triples_from}
+use Rattle.graph_traits.specs.Rows.{triples_from}
 use Rattle.snapshot_text.proofs.OrderLemmas.{triple_total, source_rises}
 use Rattle.flux_model.proofs.SortedLemmas.{strict_from_ascending}
 use Rattle.snapshot_text.proofs.VertexLemmas.{ids-strict}

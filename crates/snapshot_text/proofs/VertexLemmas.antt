@@ -12,7 +12,7 @@ use Rattle.std.proofs.lemmas.Option.{slice_get_within, get_or_from_slice_get, sl
 use Rattle.flux_model.specs.Ordered.{is_ascending}
 use Rattle.flux_model.specs.Graph.{Graph, IsGraph, ids, has_vertex, vertex_cmp}
 use Rattle.flux_model.specs.declared.graph.Vertex.{Vertex}
-use Rattle.label_graph.specs.Rows.{vertex_at}
+use Rattle.graph_traits.specs.Rows.{vertex_at}
 use Rattle.snapshot_text.proofs.OrderLemmas.{same_number}
 use Rattle.flux_model.proofs.SortedLemmas.{strict_from_ascending, sorted_from_strict, sorted_form_unique}
 

@@ -8,7 +8,7 @@ ghost use Rattle.snapshot_text.specs.Words.{spaced};
 use crate::row::write_row;
 use crate::words::{end_line, start_line, write_word};
 use flux_model::{Labels, Ledger, Steps};
-use label_graph::ReadGraph;
+use graph_traits::ReadGraph;
 use std::alloc::{AllocError, Global};
 
 /// Writes the text of a graph: a line `v ID LABEL..` for each vertex, ascending by id, and then a line `e SRC DST LABEL` for

@@ -3,12 +3,12 @@ ghost use Rattle.std.specs.Prelude.{◌≡◌, ◌++◌, map, flat_map, IsTrue, 
 ghost use Rattle.flux_model.specs.Grown.{GrewByFront};
 ghost use Rattle.flux_model.specs.Graph.{IsGraph, has_vertex};
 ghost use Rattle.flux_model.specs.GraphText.{triple_line};
-ghost use Rattle.label_graph.specs.Rows.{triples_from};
+ghost use Rattle.graph_traits.specs.Rows.{triples_from};
 ghost use Rattle.snapshot_text.specs.Row.{edge_triple};
 
 use crate::words::{end_line, start_line, write_id, write_word};
 use flux_model::{Ledger, Steps, Text};
-use label_graph::ReadGraph;
+use graph_traits::ReadGraph;
 use std::alloc::AllocError;
 
 /// An edge of a vertex's row: its label and its other end, by which a row is ordered.

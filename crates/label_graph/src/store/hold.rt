@@ -6,11 +6,10 @@ ghost use Rattle.label_graph.specs.Names.{text_at};
 ghost use Rattle.label_graph.specs.Places.{outs, ins};
 ghost use Rattle.label_graph.specs.Seen.{graph_in, outs_in, ins_in, IsOfVertex};
 
-use crate::hold::HoldGraph;
 use crate::link::Node;
-use crate::spot::Spot;
 use crate::store::LabelGraph;
 use flux_model::Text;
+use graph_traits::{HoldGraph, Spot};
 
 impl LabelGraph {
     /// What is kept of `v`, which has to be a vertex.

@@ -3,12 +3,12 @@ ghost use Rattle.std.specs.Prelude.{◌≡◌, ◌||◌, ◌+◌, nat_le, nat_lt
 ghost use Rattle.label_graph.specs.Known.{known_stands};
 
 use crate::hashed::Standing;
-use crate::keep::KeepGraph;
 use crate::link::{Link, Places};
 use crate::links::{join, part};
 use crate::store::LabelGraph;
 use crate::store::vertices::{bare_node, has_turns, lacks_room, put_node};
 use flux_model::{Code, Labels, Triple};
+use graph_traits::KeepGraph;
 use std::alloc::AllocError;
 
 impl KeepGraph for LabelGraph {

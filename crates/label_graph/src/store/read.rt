@@ -1,9 +1,8 @@
 //! The reads of a `LabelGraph`.
 use crate::link::Link;
-use crate::read::{ReadGraph, Turn};
-use crate::spot::Spot;
 use crate::store::LabelGraph;
 use flux_model::{Labels, Ledger, Steps, Text};
+use graph_traits::{ReadGraph, Spot, Turn};
 
 impl<L: Ledger> ReadGraph<L> for LabelGraph {
     fn vertex_at(&self, i: u64, steps: &mut Steps<L>) -> u32 {

@@ -3,7 +3,7 @@ use Rattle.std.proofs.lemmas.List.Sorted.{sum_by-IsPermutation, length_permutati
 use Rattle.flux_model.specs.Pattern.{fits_edge}
 use Rattle.flux_model.specs.Tree.{edge_at}
 use Rattle.flux_model.specs.declared.graph.Triple.{Triple}
-use Rattle.label_graph.specs.Rows.{triples_from}
+use Rattle.graph_traits.specs.Rows.{triples_from}
 use Rattle.label_cards.proofs.row.count_row.Goals as goal
 
 pub count_turn-requires-clause-room : goal.count_turn-requires-clause-room

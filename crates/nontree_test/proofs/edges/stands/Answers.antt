@@ -1,6 +1,6 @@
 use Rattle.std.proofs.Common.{ℕ, Option, subst}
-use Rattle.label_graph.specs.Numbers.{IsNumberIn}
-use Rattle.label_graph.proofs.NumberLemmas.{lacks_triple}
+use Rattle.graph_traits.specs.Numbers.{IsNumberIn}
+use Rattle.graph_traits.proofs.NumberLemmas.{lacks_triple}
 use Rattle.nontree_test.proofs.edges.stands.Goals as goal
 
 pub returns-in-None-clause-value : goal.returns-in-None-clause-value

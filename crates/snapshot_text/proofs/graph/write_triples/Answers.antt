@@ -2,7 +2,7 @@ use Rattle.std.proofs.Common.{◌∙◌, ap, ◌++◌}
 use Rattle.std.specs.List.{flat_map}
 use Rattle.std.proofs.lemmas.Option.{slice_get-get_or}
 use Rattle.flux_model.specs.GraphText.{triple_line}
-use Rattle.label_graph.specs.Rows.{triples_from}
+use Rattle.graph_traits.specs.Rows.{triples_from}
 use Rattle.flux_model.proofs.GrownLemmas.{on_err, grew_same, grew_at}
 use Rattle.snapshot_text.proofs.VertexLemmas.{id_at, has_vertex-at}
 use Rattle.snapshot_text.proofs.SourceLemmas.{lines-of_ids, rows-done}

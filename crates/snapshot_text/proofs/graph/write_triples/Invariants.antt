@@ -1,7 +1,7 @@
 use Rattle.std.proofs.Common.{◌≡◌, ◌++◌, take}
 use Rattle.std.specs.List.{flat_map}
 use Rattle.flux_model.specs.GraphText.{triple_line}
-use Rattle.label_graph.specs.Rows.{triples_from}
+use Rattle.graph_traits.specs.Rows.{triples_from}
 use Rattle.snapshot_text.proofs.graph.write_triples.Given as goal
 
 -- the rows so far

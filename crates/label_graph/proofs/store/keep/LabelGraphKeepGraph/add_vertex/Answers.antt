@@ -3,7 +3,7 @@ use Rattle.std.specs.Prelude.{nat_le, nat_lt}
 use Rattle.std.specs.Map.{keys_of}
 use Rattle.flux_model.specs.Graph.{Graph, name_count}
 use Rattle.label_graph.specs.declared.link.Node.{Node}
-use Rattle.label_graph.specs.Held.{IsHeld}
+use Rattle.graph_traits.specs.Held.{IsHeld}
 use Rattle.label_graph.specs.Places.{ArePlaced, vertex_of}
 use Rattle.label_graph.specs.Store.{kept_graph}
 use Rattle.label_graph.proofs.StoreLemmas.{has_vertex_of}

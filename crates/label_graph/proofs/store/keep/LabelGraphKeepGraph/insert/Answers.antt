@@ -6,7 +6,7 @@ use Rattle.flux_model.specs.Graph.{Graph}
 use Rattle.flux_model.specs.declared.graph.Vertex.{Vertex}
 use Rattle.flux_model.specs.declared.graph.Update.TheVariants.{AddEdge}
 use Rattle.label_graph.specs.declared.link.Link.{Link}
-use Rattle.label_graph.specs.Held.{IsHeld}
+use Rattle.graph_traits.specs.Held.{IsHeld}
 use Rattle.label_graph.specs.Places.{vertex_of, outs, ins, out_link, in_link}
 use Rattle.label_graph.proofs.SameLemmas.{same_row}
 use Rattle.label_graph.specs.Store.{kept_graph, IsNamed}

@@ -3,10 +3,10 @@ ghost use Rattle.std.specs.Prelude.{◌≡◌, ℕ, List, Option, length, count_
 ghost use Rattle.flux_model.specs.Graph.{Graph, ids, has_vertex};
 ghost use Rattle.flux_model.specs.declared.graph.Triple.{Triple};
 ghost use Rattle.flux_model.specs.declared.limits.Limits.{Limits};
-ghost use Rattle.label_graph.specs.Rows.{triples_from, triples_to};
-ghost use Rattle.label_graph.specs.Numbers.{IsNumberOf, LacksLabel};
-ghost use Rattle.label_graph.specs.Held.{IsHeld};
-ghost use Rattle.label_graph.specs.declared.spot.Spot.{Spot};
+ghost use Rattle.graph_traits.specs.Rows.{triples_from, triples_to};
+ghost use Rattle.graph_traits.specs.Numbers.{IsNumberOf, LacksLabel};
+ghost use Rattle.graph_traits.specs.Held.{IsHeld};
+ghost use Rattle.graph_traits.specs.declared.spot.Spot.{Spot};
 
 use crate::spot::Spot;
 use flux_model::Text;

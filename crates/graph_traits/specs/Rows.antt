@@ -4,7 +4,7 @@ use Rattle.std.specs.List.{find}
 use Rattle.flux_model.specs.Graph.{Graph}
 use Rattle.flux_model.specs.declared.graph.Vertex.{Vertex}
 use Rattle.flux_model.specs.declared.graph.Triple.{Triple}
-use Rattle.label_graph.specs.declared.spot.Spot.{Spot}
+use Rattle.graph_traits.specs.declared.spot.Spot.{Spot}
 
 -- the triples that begin at v, and those that end there
 abbrev pub triples_from : Graph → ℕ → List Triple

@@ -2,8 +2,8 @@
 ghost use Rattle.std.specs.Prelude.{◌≡◌, Ok, Err, IfOk, OnOk, OnErr, IfErr};
 ghost use Rattle.flux_model.specs.Graph.{apply};
 ghost use Rattle.flux_model.specs.declared.graph.Update.TheVariants.{AddVertex, DropVertex, AddEdge, DropEdge};
-ghost use Rattle.label_graph.specs.Changes.{IfNotMade};
-ghost use Rattle.label_graph.specs.Rows.{SameRows};
+ghost use Rattle.graph_traits.specs.Changes.{IfNotMade};
+ghost use Rattle.graph_traits.specs.Rows.{SameRows};
 
 use crate::hold::HoldGraph;
 use flux_model::{Code, Labels, Triple};

@@ -2,8 +2,8 @@
 ghost use Rattle.std.specs.Prelude.{◌≡◌, ◌+◌, ◌<◌, [], ◌∷◌, Some, length, slice_get, IsTrue, IfSome, MatchOption};
 ghost use Rattle.flux_model.specs.Graph.{has_vertex, has_triple};
 ghost use Rattle.flux_model.specs.Pattern.{fits_labels};
-ghost use Rattle.label_graph.specs.Numbers.{has_triple_by};
-ghost use Rattle.label_graph.specs.Rows.{vertex_at};
+ghost use Rattle.graph_traits.specs.Numbers.{has_triple_by};
+ghost use Rattle.graph_traits.specs.Rows.{vertex_at};
 
 use crate::hold::HoldGraph;
 use crate::spot::Spot;
