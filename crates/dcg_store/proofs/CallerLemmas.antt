@@ -16,7 +16,7 @@ use Rattle.flux_model.specs.Pattern.{PatternGraph, vertex_count}
 use Rattle.flux_model.specs.Tree.{QueryTree, children, IsTree, BelongsTo}
 use Rattle.flux_model.specs.States.{Joined, joined, joint_of, reaches, extends, is_explicit, state, state_for}
 use Rattle.dcg_store.specs.Moves.{with_changed, in_raised, in_lowered, out_raised, out_lowered}
-use Rattle.dcg_store.specs.Kept.{live_count}
+use Rattle.dcg_store.specs.SoundRows.{live_count}
 use Rattle.dcg_store.proofs.LiveLemmas.{has_full, count_by-alike, live_count-over}
 use Rattle.dcg_store.proofs.BoundLemmas.{len-le-reached, fits-id, length-filter_map}
 pub use Rattle.dcg_store.proofs.StateLemmas.{HasDepths}

@@ -12,7 +12,7 @@ use Rattle.std.proofs.lemmas.Bool.{and_parts, eqb-true, eq-eqb, ne_eqb}
 use Rattle.std.proofs.lemmas.List.Sums.{sum_by-cons}
 use Rattle.flux_model.specs.Exact.{Row, StateRows, pair_cmp, row_at}
 use Rattle.dcg_store.specs.Counters.{is_full}
-use Rattle.dcg_store.specs.Kept.{is_live, live_count}
+use Rattle.dcg_store.specs.SoundRows.{is_live, live_count}
 use Rattle.dcg_store.proofs.CountLemmas.{bit, equal, remove_missing, count-remove}
 use Rattle.dcg_store.proofs.PairLemmas.{pair_cmp_total, pair_cmp-IsAntisymmetric, same_pair, first, second}
 use Rattle.dcg_store.proofs.ListLemmas.{In}

@@ -11,7 +11,7 @@ use Rattle.std.proofs.lemmas.Bool.{eqb-true, eq-eqb, ne_eqb}
 use Rattle.std.proofs.lemmas.List.Sums.{sum_by-cons}
 use Rattle.flux_model.specs.Exact.{Row, pair_cmp}
 use Rattle.dcg_store.specs.Counters.{is_full}
-use Rattle.dcg_store.specs.Kept.{is_live}
+use Rattle.dcg_store.specs.SoundRows.{is_live}
 use Rattle.dcg_store.specs.Layers.{Layer, live_in, of_vertex, entries_from, rows_of, layer_at}
 use Rattle.dcg_store.proofs.CountLemmas.{bit, count-le-len}
 

@@ -10,7 +10,7 @@ use Rattle.std.proofs.lemmas.List.{length-replicate, get_or-set_same, get_or-set
 use Rattle.flux_model.specs.Exact.{Row, StateRows, pair_cmp, row_at}
 use Rattle.dcg_store.specs.Counters.{first_row, more_ins, fewer_ins, more_outs, fewer_outs, has_last_in}
 use Rattle.dcg_store.specs.Moves.{with_changed, with_more_ins, with_fewer_ins, in_raised, in_lowered}
-use Rattle.dcg_store.specs.Kept.{IsKept, IsKeptRow}
+use Rattle.dcg_store.specs.SoundRows.{HasSoundRows, IsSoundRow}
 use Rattle.dcg_store.specs.Layers.{Layer, rows_of, layer_at, state_rows, IsStored}
 use Rattle.dcg_store.proofs.CountLemmas.{bit, insert-remove, insert_found, get_removed}
 use Rattle.dcg_store.proofs.PairLemmas.{pair_cmp_total, pair_cmp-IsAntisymmetric, same_pair, get-rows_of}
@@ -72,39 +72,39 @@ same_some row r e = ap (λ o. unwrap_or o row) e
 no_some : {A : Type 0} (r : Row) → None ≡ Some r → A
 no_some r e = absurd (let bad : false ≡ true = ap is_some e in cc)
 
-module _ (d : StateRows) (kept : IsKept d) (u v : ℕ) where
-  kept-insert : (row : Row) → IsKeptRow d.children u row → IsKept (record d { rows = insert d.rows (u, v) row })
+module _ (d : StateRows) (kept : HasSoundRows d) (u v : ℕ) where
+  kept-insert : (row : Row) → IsSoundRow d.children u row → HasSoundRows (record d { rows = insert d.rows (u, v) row })
   kept-insert row new = record { rows = λ x y r e. at x y r (x == u) (y == v) refl (ap (λ b. cond b (Some row) (get d.rows (x, y))) (sym (same_pair (x, y) (u, v))) ∙ sym (get-insert pair_cmp_total d.rows (u, v) row (x, y)) ∙ e) }
     where
-      at : (x y : ℕ) (r : Row) (a b : Bool) → (x == u) ≡ a → cond (a && b) (Some row) (get d.rows (x, y)) ≡ Some r → IsKeptRow d.children x r
-      at x y r true true p e = subst (λ z. IsKeptRow d.children z r) (sym (eqb-true x u p)) (subst (λ z. IsKeptRow d.children u z) (same_some row r e) new)
+      at : (x y : ℕ) (r : Row) (a b : Bool) → (x == u) ≡ a → cond (a && b) (Some row) (get d.rows (x, y)) ≡ Some r → IsSoundRow d.children x r
+      at x y r true true p e = subst (λ z. IsSoundRow d.children z r) (sym (eqb-true x u p)) (subst (λ z. IsSoundRow d.children u z) (same_some row r e) new)
       at x y r true false p e = kept.rows x y r e
       at x y r false b p e = kept.rows x y r e
 
-  kept-remove : IsKept (record d { rows = remove d.rows (u, v) })
+  kept-remove : HasSoundRows (record d { rows = remove d.rows (u, v) })
   kept-remove = record { rows = λ x y r e. at x y r (eq_by_cmp pair_cmp (x, y) (u, v)) (sym (get-remove pair_cmp_total d.rows (u, v) (x, y)) ∙ e) }
     where
-      at : (x y : ℕ) (r : Row) (b : Bool) → cond b None (get d.rows (x, y)) ≡ Some r → IsKeptRow d.children x r
+      at : (x y : ℕ) (r : Row) (b : Bool) → cond b None (get d.rows (x, y)) ≡ Some r → IsSoundRow d.children x r
       at x y r true e = no_some r e
       at x y r false e = kept.rows x y r e
 
-  kept-changed : (change : Row → Row) → ((row : Row) → IsKeptRow d.children u row → IsKeptRow d.children u (change row)) → IsKept (record d { rows = with_changed change d.rows (u, v) })
+  kept-changed : (change : Row → Row) → ((row : Row) → IsSoundRow d.children u row → IsSoundRow d.children u (change row)) → HasSoundRows (record d { rows = with_changed change d.rows (u, v) })
   kept-changed change keeps = at (get d.rows (u, v)) refl
     where
-      at : (o : Option Row) → get d.rows (u, v) ≡ o → IsKept (record d { rows = option_map_or (λ row. insert d.rows (u, v) (change row)) o d.rows })
+      at : (o : Option Row) → get d.rows (u, v) ≡ o → HasSoundRows (record d { rows = option_map_or (λ row. insert d.rows (u, v) (change row)) o d.rows })
       at None e = kept
       at (Some row) e = kept-insert (change row) (keeps row (kept.rows u v row e))
 
-  kept-fewer_ins : IsKept (record d { rows = with_fewer_ins d.rows (u, v) })
+  kept-fewer_ins : HasSoundRows (record d { rows = with_fewer_ins d.rows (u, v) })
   kept-fewer_ins = at (get d.rows (u, v)) refl
     where
-      either : (row : Row) (b : Bool) → (row.ins == 1) ≡ b → IsKeptRow d.children u row → IsKept (record d { rows = if b then remove d.rows (u, v) else insert d.rows (u, v) (fewer_ins row) })
+      either : (row : Row) (b : Bool) → (row.ins == 1) ≡ b → IsSoundRow d.children u row → HasSoundRows (record d { rows = if b then remove d.rows (u, v) else insert d.rows (u, v) (fewer_ins row) })
       either row true e this = kept-remove
       either row false e this =
           let more = eqb-false row.ins 1 e in
           kept-insert (fewer_ins row) (record { inside = this.inside; has_ins = omega (arith, this.has_ins, more); width = this.width })
 
-      at : (o : Option Row) → get d.rows (u, v) ≡ o → IsKept (record d { rows = option_map_or (λ row. if row.ins == 1 then remove d.rows (u, v) else insert d.rows (u, v) (fewer_ins row)) o d.rows })
+      at : (o : Option Row) → get d.rows (u, v) ≡ o → HasSoundRows (record d { rows = option_map_or (λ row. if row.ins == 1 then remove d.rows (u, v) else insert d.rows (u, v) (fewer_ins row)) o d.rows })
       at None e = kept
       at (Some row) e = either row (row.ins == 1) refl (kept.rows u v row e)
 
@@ -149,11 +149,11 @@ module _ (broken : Bool) (children : List ℕ) (layers : List Layer) (stored : �
   abbrev pub Holds : List Layer → ℕ → FinMap pair_cmp Row → Type 0
   Holds ls n rows = (state_rows broken children ls ≡ record { is_broken = broken; children = children; rows = rows }) × IsStored ls n (state_rows broken children ls)
 
-  holds : (ls : List Layer) (layer : Layer) (n : ℕ) (rows : FinMap pair_cmp Row) → ls ≡ slice_set layers u layer → rows_of ls ≡ rows → n ≡ len rows → IsKept (with_rows rows) → Holds ls n rows
+  holds : (ls : List Layer) (layer : Layer) (n : ℕ) (rows : FinMap pair_cmp Row) → ls ≡ slice_set layers u layer → rows_of ls ≡ rows → n ≡ len rows → HasSoundRows (with_rows rows) → Holds ls n rows
   holds ls layer n rows set same count kept =
-      (ap with_rows same, record { each = ap length set ∙ length-set layers u layer ∙ sound.each; counted = count ∙ ap len (sym same); kept = subst (λ r. IsKept (with_rows r)) (sym same) kept })
+      (ap with_rows same, record { each = ap length set ∙ length-set layers u layer ∙ sound.each; counted = count ∙ ap len (sym same); kept = subst (λ r. HasSoundRows (with_rows r)) (sym same) kept })
 
-  pub holds-changed : (change : Row → Row) → ((row : Row) → IsKeptRow children u row → IsKeptRow children u (change row)) → (ls : List Layer)
+  pub holds-changed : (change : Row → Row) → ((row : Row) → IsSoundRow children u row → IsSoundRow children u (change row)) → (ls : List Layer)
       → ls ≡ slice_set layers u (with_changed change (layer_at layers u) v) → Holds ls stored (with_changed change (rows_of layers) (u, v))
   holds-changed change keeps ls set =
       holds ls (with_changed change (layer_at layers u) v) stored (with_changed change (rows_of layers) (u, v)) set (ap rows_of set ∙ rows-changed layers u in_layers v change)
@@ -163,7 +163,7 @@ module _ (broken : Bool) (children : List ℕ) (layers : List Layer) (stored : �
       → Holds ls n (with_more_ins (slice_index children u) (rows_of layers) (u, v))
   holds-first missing ls n more set =
       let row = first_row (slice_index children u) in
-      let new : IsKeptRow children u row = record { inside = inside; has_ins = omega arith; width = length-replicate (slice_index children u) 0 } in
+      let new : IsSoundRow children u row = record { inside = inside; has_ins = omega arith; width = length-replicate (slice_index children u) 0 } in
       subst (Holds ls n) (ap (λ o. insert (rows_of layers) (u, v) (option_map_or more_ins o row)) (sym missing))
       (holds ls (insert (layer_at layers u) v row) n (insert (rows_of layers) (u, v) row) set (ap rows_of set ∙ rows-insert layers u in_layers v row)
       (more ∙ ap (λ m. m + 1) sound.counted ∙ sym (len-first (rows_of layers) (u, v) row missing)) (kept-insert (with_rows (rows_of layers)) sound.kept u v row new))
@@ -184,13 +184,13 @@ module _ (broken : Bool) (children : List ℕ) (layers : List Layer) (stored : �
 
 -- ---- what a move keeps
 
-pub keeps-more_ins : (children : List ℕ) (u : ℕ) (row : Row) → IsKeptRow children u row → IsKeptRow children u (more_ins row)
+pub keeps-more_ins : (children : List ℕ) (u : ℕ) (row : Row) → IsSoundRow children u row → IsSoundRow children u (more_ins row)
 keeps-more_ins children u row this = record { inside = this.inside; has_ins = omega arith; width = this.width }
 
-pub keeps-more_outs : (j : ℕ) (children : List ℕ) (u : ℕ) (row : Row) → IsKeptRow children u row → IsKeptRow children u (more_outs j row)
+pub keeps-more_outs : (j : ℕ) (children : List ℕ) (u : ℕ) (row : Row) → IsSoundRow children u row → IsSoundRow children u (more_outs j row)
 keeps-more_outs j children u row this = record { inside = this.inside; has_ins = this.has_ins; width = length-set row.outs j (slice_index row.outs j + 1) ∙ this.width }
 
-pub keeps-fewer_outs : (j : ℕ) (children : List ℕ) (u : ℕ) (row : Row) → IsKeptRow children u row → IsKeptRow children u (fewer_outs j row)
+pub keeps-fewer_outs : (j : ℕ) (children : List ℕ) (u : ℕ) (row : Row) → IsSoundRow children u row → IsSoundRow children u (fewer_outs j row)
 keeps-fewer_outs j children u row this = record { inside = this.inside; has_ins = this.has_ins; width = length-set row.outs j (slice_index row.outs j - 1) ∙ this.width }
 
 -- where there is a row, none begins
@@ -234,11 +234,11 @@ module _ (broken : Bool) (children : List ℕ) (layers : List Layer) (stored : �
   pub row_read : (layer : Layer) (v : ℕ) → layer ≡ slice_index_or layers u layer → get layer v ≡ row_at d u v
   row_read layer v read = ap (λ l. get l v) (layer_read layer read) ∙ sym (get-rows_of layers u v) ∙ ap (λ e. row_at e u v) view
 
-  kept_row : (v : ℕ) (row : Row) → row_at d u v ≡ Some row → IsKeptRow children u row
+  kept_row : (v : ℕ) (row : Row) → row_at d u v ≡ Some row → IsSoundRow children u row
   kept_row v row there = sound.kept.rows u v row (ap (λ e. row_at e u v) view ∙ there)
 
   -- a row that is there allows what a kept row does
-  pub allows : (P Q : Row → Type 0) → ((row : Row) → IsKeptRow children u row → P row → Q row) → (layer : Layer) (v : ℕ) → layer ≡ slice_index_or layers u layer → IsSomeAnd (row_at d u v) P → IsSomeAnd (get layer v) Q
+  pub allows : (P Q : Row → Type 0) → ((row : Row) → IsSoundRow children u row → P row → Q row) → (layer : Layer) (v : ℕ) → layer ≡ slice_index_or layers u layer → IsSomeAnd (row_at d u v) P → IsSomeAnd (get layer v) Q
   allows P Q turns layer v read there = subst (λ o. IsSomeAnd o Q) (sym (row_read layer v read)) (at (row_at d u v) refl there)
     where
       at : (o : Option Row) → row_at d u v ≡ o → IsSomeAnd o P → IsSomeAnd o Q
@@ -250,7 +250,7 @@ module _ (broken : Bool) (children : List ℕ) (layers : List Layer) (stored : �
   Changes layer n rows =
       (state_rows broken children (slice_set layers u layer) ≡ record d { rows = rows }) × IsStored (slice_set layers u layer) n (state_rows broken children (slice_set layers u layer))
 
-  pub moves-changed : (change : Row → Row) → ((row : Row) → IsKeptRow children u row → IsKeptRow children u (change row)) → (v : ℕ) (layer after : Layer)
+  pub moves-changed : (change : Row → Row) → ((row : Row) → IsSoundRow children u row → IsSoundRow children u (change row)) → (v : ℕ) (layer after : Layer)
       → layer ≡ slice_index_or layers u layer → after ≡ with_changed change layer v → Changes after stored (with_changed change d.rows (u, v))
   moves-changed change keeps v layer after read e =
       let done = holds-changed broken children layers stored sound u v in_children change keeps (slice_set layers u after) (ap (slice_set layers u) (e ∙ ap (λ l. with_changed change l v) (layer_read layer read))) in

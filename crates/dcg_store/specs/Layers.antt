@@ -4,7 +4,7 @@ use Rattle.std.specs.Ordering.{nat_cmp}
 use Rattle.std.specs.FinMap.{FinMap, entries, from_sorted, empty, len}
 use Rattle.flux_model.specs.Exact.{Row, StateRows, pair_cmp}
 use Rattle.dcg_store.specs.Counters.{is_full}
-use Rattle.dcg_store.specs.Kept.{IsKept}
+use Rattle.dcg_store.specs.SoundRows.{HasSoundRows}
 
 -- the rows of one pattern vertex, by graph vertex
 abbrev pub Layer : Type 0
@@ -38,4 +38,4 @@ layer_at layers u = slice_index_or layers u empty
 pub record IsStored (layers : List Layer) (stored : ℕ) (d : StateRows) : Type 0 where
   pub each : length layers ≡ length d.children
   pub counted : stored ≡ len d.rows
-  pub kept : IsKept d
+  pub kept : HasSoundRows d

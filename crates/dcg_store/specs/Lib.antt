@@ -1,4 +1,4 @@
 pub mod Counters
 pub mod Moves
-pub mod Kept
+pub mod SoundRows
 pub mod Layers

@@ -6,7 +6,7 @@ ghost use Rattle.std.specs.FinMap.{empty, len};
 ghost use Rattle.flux_model.specs.Exact.{row_at};
 ghost use Rattle.dcg_store.specs.Counters.{state_of_row, state_below};
 ghost use Rattle.dcg_store.specs.Moves.{in_raised, in_lowered, out_raised, out_lowered};
-ghost use Rattle.dcg_store.specs.Kept.{IsKept, live_count};
+ghost use Rattle.dcg_store.specs.SoundRows.{HasSoundRows, live_count};
 
 use crate::layer::Layer;
 use flux_model::{Ledger, State, Steps};
@@ -29,7 +29,7 @@ pub struct Dcg {
 
 impl Model for Dcg {
     ghost use Rattle.flux_model.specs.Exact.{StateRows};
-    ghost use Rattle.dcg_store.specs.Kept.{state_rows_code};
+    ghost use Rattle.dcg_store.specs.SoundRows.{state_rows_code};
     ghost use Rattle.dcg_store.specs.Layers.{rows_of, state_rows, IsStored};
 
     ghost Value = { StateRows };
@@ -126,7 +126,7 @@ impl Dcg {
     pub fn stored(&self) -> u64
         requires { self.now.is_broken ≡ false }
         ensures count { result ≡ len self.now.rows }
-        ensures kept { IsKept self.now }
+        ensures kept { HasSoundRows self.now }
     {
         self.stored
     }

@@ -26,7 +26,7 @@ impl Model for Layer {
     ghost use Rattle.std.specs.FinMap.{FinMap, from_entries};
     ghost use Rattle.std.specs.Ordering.{nat_cmp};
     ghost use Rattle.flux_model.specs.Exact.{Row as Counts};
-    ghost use Rattle.dcg_store.specs.Kept.{layer_code};
+    ghost use Rattle.dcg_store.specs.SoundRows.{layer_code};
     ghost use Rattle.dcg_store.specs.Layers.{live_in};
 
     ghost Value = { FinMap nat_cmp Counts };

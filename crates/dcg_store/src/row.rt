@@ -22,7 +22,7 @@ const _: () = prove!(size_of::<(u32, Row)>() <= 40);
 impl Model for Row {
     ghost use Rattle.std.specs.Prelude.{◌<◌, length, slice_index, drop};
     ghost use Rattle.flux_model.specs.Exact.{Row as Counts};
-    ghost use Rattle.dcg_store.specs.Kept.{row_code};
+    ghost use Rattle.dcg_store.specs.SoundRows.{row_code};
 
     ghost Value = { Counts };
 

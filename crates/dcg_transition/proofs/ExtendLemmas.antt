@@ -15,7 +15,7 @@ use Rattle.flux_model.specs.States.{Joined, joined, reaches, extends, is_explici
 use Rattle.flux_model.specs.Exact.{Row, StateRows, row_at, in_count, out_count, row_of, IsExactOver}
 use Rattle.flux_model.specs.declared.limits.Limits.{Limits}
 use Rattle.flux_model.specs.declared.tree.TreeLink.{TreeLink}
-use Rattle.graph_traits.specs.Held.{IsHeld}
+use Rattle.graph_traits.specs.WithinLimits.{IsWithinLimits}
 use Rattle.query_tree.specs.Depth.{depth}
 use Rattle.query_tree.proofs.CallerLemmas.{depth-below, child_once, parent_within}
 use Rattle.dcg_store.proofs.ListLemmas.{In}
@@ -197,7 +197,7 @@ module _ (q : PatternGraph) (t : QueryTree) (belongs : BelongsTo q t) (b : Branc
       ∙ ap (λ s. cond s (option_map (with_more_outs b.number (so_many vs v)) (row_at old b.link.parent v)) (row_at old b.link.parent v)) (eq-eqb b.link.parent b.link.parent refl))
       ∙ (mapped_some (with_more_outs b.number (so_many vs v)) (row_at old b.link.parent v) ∙ some)
 
-  module _ (limits : Limits) (held : IsHeld limits g) (listed : List ℕ) (distinct : IsDistinct nat_eq listed) (inside : (y : ℕ) → reaches from_parent b.link.parent y ≡ true → In y listed) where
+  module _ (limits : Limits) (held : IsWithinLimits limits g) (listed : List ℕ) (distinct : IsDistinct nat_eq listed) (inside : (y : ℕ) → reaches from_parent b.link.parent y ≡ true → In y listed) where
     so_many-listed : (y : ℕ) → reaches from_parent b.link.parent y ≡ true → so_many listed y ≡ tally old y
     so_many-listed y reached = so_many-all listed y (once y (tally old y) listed distinct (inside y reached))
 

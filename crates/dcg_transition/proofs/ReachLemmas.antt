@@ -19,7 +19,7 @@ use Rattle.flux_model.specs.declared.graph.Triple.{Triple}
 use Rattle.flux_model.specs.declared.pattern.PatternEdge.{PatternEdge}
 use Rattle.flux_model.specs.declared.limits.Limits.{Limits}
 use Rattle.flux_model.specs.declared.tree.TreeLink.{TreeLink}
-use Rattle.graph_traits.specs.Held.{IsHeld}
+use Rattle.graph_traits.specs.WithinLimits.{IsWithinLimits}
 use Rattle.query_tree.specs.Depth.{depth}
 use Rattle.query_tree.proofs.CallerLemmas.{link_within, depth-below}
 use Rattle.dcg_store.proofs.ListLemmas.{In, some_counted, found_in, list_any-in}
@@ -196,7 +196,7 @@ module _ (q : PatternGraph) (t : QueryTree) (belongs : BelongsTo q t) (b : Branc
   pub row_stands : (v : ℕ) → is_some (row_at old b.link.parent v) ≡ true → has_vertex g v ≡ true
   row_stands v some = vertex_of_fits q b.link.parent g v (fits_of_reaches to_child (length t.links) b.link.parent v (sym (parent_reaches v) ∙ some))
 
-  module _ (limits : Limits) (held : IsHeld limits g) (listed : List ℕ) (distinct : IsDistinct nat_eq listed) (inside : (v : ℕ) → reaches to_child b.link.parent v ≡ true → In v listed) where
+  module _ (limits : Limits) (held : IsWithinLimits limits g) (listed : List ℕ) (distinct : IsDistinct nat_eq listed) (inside : (v : ℕ) → reaches to_child b.link.parent v ≡ true → In v listed) where
     -- from all that the parent reaches as many joints lead in as there are
     from_listed : (w : ℕ) → sum_by (joins_from old b g w) listed ≡ in_count to_child b.child w
     from_listed w =

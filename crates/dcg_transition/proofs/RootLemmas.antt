@@ -17,7 +17,7 @@ use Rattle.flux_model.specs.States.{Joined, joined, reaches}
 use Rattle.flux_model.specs.Exact.{Row, StateRows, pair_cmp, row_at, in_count}
 use Rattle.flux_model.specs.declared.graph.Vertex.{Vertex}
 use Rattle.flux_model.specs.declared.limits.Limits.{Limits}
-use Rattle.graph_traits.specs.Held.{IsHeld}
+use Rattle.graph_traits.specs.WithinLimits.{IsWithinLimits}
 use Rattle.query_tree.specs.Depth.{depth}
 use Rattle.query_tree.proofs.CallerLemmas.{depth-root}
 use Rattle.dcg_store.specs.Moves.{in_raised}
@@ -90,7 +90,7 @@ module _ (q : PatternGraph) (t : QueryTree) (belongs : BelongsTo q t) (g : Graph
   root_count : (w : ℕ) → in_count to_root t.root w ≡ 1
   root_count w = rw belongs.tree.top refl
 
-  module _ (limits : Limits) (held : IsHeld limits g) (listed : List ℕ) (each : IsPermutation listed (ids g)) where
+  module _ (limits : Limits) (held : IsWithinLimits limits g) (listed : List ℕ) (each : IsPermutation listed (ids g)) where
     -- no in counter comes to its bound
     pub root_room : (i v : ℕ) (d : StateRows) (row : Row) → HasMoreIns t.root (λ w. count_by (fitting w) (take i listed)) old d → row_at d t.root v ≡ Some row → row.ins < 2 ^ 32 - 1
     root_room i v d row grown e =

@@ -9,7 +9,7 @@ use Rattle.flux_model.specs.Tree.{QueryTree, cards, children, tree, tree_for, no
 use Rattle.flux_model.specs.States.{joined, state, edge_state}
 use Rattle.flux_model.specs.Exact.{row_of, live_counts}
 use Rattle.flux_model.specs.Order.{search_order}
-use Rattle.flux_model.specs.Costs.{full_cost}
+use Rattle.flux_model.specs.Costs.{no_dead_end_cost}
 use Rattle.flux_model.specs.declared.code.Bad.{Bad}
 use Rattle.flux_model.specs.declared.pattern.Mode.TheVariants.{Hom}
 use Rattle.flux_model.specs.declared.state.State.{State}
@@ -79,7 +79,7 @@ chain_order : search_order chain_tree 0 (1 ∷ 0 ∷ 0 ∷ []) ≡ record { star
 chain_order = refl
 
 -- three vertices and no embedding; then one, whose root 2 has the degree 2
-chain_cost : (full_cost chain chain_tree chain_before ≡ 8) × (full_cost chain chain_tree chain_after ≡ 8 + 6 * (1 + (3 + 3)))
+chain_cost : (no_dead_end_cost chain chain_tree chain_before ≡ 8) × (no_dead_end_cost chain chain_tree chain_after ≡ 8 + 6 * (1 + (3 + 3)))
 chain_cost = (refl, refl)
 
 -- ---- trees for given cards

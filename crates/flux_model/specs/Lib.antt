@@ -4,7 +4,7 @@ pub mod Labels
 pub mod Limits
 pub mod Code
 pub mod Lines
-pub mod Seen
+pub mod LentLine
 pub mod Reading
 pub mod FileReading
 pub mod Graph

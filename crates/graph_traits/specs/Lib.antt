@@ -1,4 +1,4 @@
 pub mod Rows
 pub mod Numbers
-pub mod Held
+pub mod WithinLimits
 pub mod Changes

@@ -13,7 +13,7 @@ use Rattle.flux_model.specs.declared.graph.Vertex.{Vertex}
 use Rattle.flux_model.specs.declared.graph.Triple.{Triple}
 use Rattle.flux_model.specs.declared.limits.Limits.{Limits}
 use Rattle.flux_model.specs.declared.pattern.PatternEdge.{PatternEdge}
-use Rattle.graph_traits.specs.Held.{IsHeld}
+use Rattle.graph_traits.specs.WithinLimits.{IsWithinLimits}
 use Rattle.graph_traits.specs.Rows.{triples_from}
 use Rattle.label_cards.specs.Counted.{vertex_adds, row_adds}
 use Rattle.label_cards.proofs.SumLemmas.{sum_of_rows}
@@ -39,7 +39,7 @@ module _ (q : PatternGraph) (g : Graph) where
   rows_within k (v ∷ vs) few =
       omega (arith, sum_by-cons (λ w. row_adds q g w k) v vs, count_by-le-length (fits_edge q (edge_at q k) g) (triples_from g v), row_within v, few, rows_within k vs few)
 
-  pub rows_room : (limits : Limits) → IsHeld limits g → (listed : List ℕ) (i k v : ℕ) → i < length g.vertices → sum_by (λ w. row_adds q g w k) (take i listed) + length (triples_from g v) < 2 ^ 64
+  pub rows_room : (limits : Limits) → IsWithinLimits limits g → (listed : List ℕ) (i k v : ℕ) → i < length g.vertices → sum_by (λ w. row_adds q g w k) (take i listed) + length (triples_from g v) < 2 ^ 64
   rows_room limits held listed i k v below =
       let few : length g.triples ≤ 4194304 = omega (arith, held.within.triples, held.fair.edges.1) in
       omega (arith, rows_within k (take i listed) few, length-take i listed, row_within v, few, below, held.within.vertices, held.fair.vertices.1)

@@ -17,7 +17,7 @@ use Rattle.label_graph.specs.declared.link.Link.{Link}
 use Rattle.label_graph.specs.declared.link.Node.{Node}
 use Rattle.label_graph.specs.declared.link.Places.{Places}
 use Rattle.label_graph.specs.declared.names.Name.{Name}
-use Rattle.graph_traits.specs.Held.{IsHeld}
+use Rattle.graph_traits.specs.WithinLimits.{IsWithinLimits}
 use Rattle.label_graph.specs.Names.{slot}
 use Rattle.label_graph.specs.Places.{ArePlaced, vertex_of, outs, ins}
 use Rattle.label_graph.specs.SetNames.{lowered_in, IsRaised}
@@ -71,7 +71,7 @@ module _ (names names' : List (Option Name)) (es fs : List (ℕ × Node)) (place
       drop_vertex_done (kept_graph names (map vertex_of es) (keys_of places)) id (has_vertex_of names es (keys_of places) id ∙ ap is_some found) (incident_is es places placed id names (map vertex_of es) ∙ idle)
       ∙ ap okay (graph_without names names' (map vertex_of es) (map vertex_of fs) (keys_of places) (vertex_of (id, node)) named low without (none_left id es fs set))
 
-  pub dropped_held : (limits : Limits) → IsHeld limits (kept_graph names (map vertex_of es) (keys_of places)) → IsHeld limits (kept_graph names' (map vertex_of fs) (keys_of places))
+  pub dropped_held : (limits : Limits) → IsWithinLimits limits (kept_graph names (map vertex_of es) (keys_of places)) → IsWithinLimits limits (kept_graph names' (map vertex_of fs) (keys_of places))
   dropped_held limits held = held_after limits (kept_graph names (map vertex_of es) (keys_of places)) (kept_graph names' (map vertex_of fs) (keys_of places)) (DropVertex id) held tt dropped
 
 -- ---- a vertex more
@@ -104,7 +104,7 @@ module _ (limits : Limits) (names names' : List (Option Name)) (es mid fs : List
       add_vertex_done limits (kept_graph names (map vertex_of es) (keys_of places)) (record { id = id; labels = labels }) (has_vertex_of names es (keys_of places) id ∙ absent) room
       ∙ ap okay (graph_with names names' (map vertex_of es) (map vertex_of fs) (keys_of places) (record { id = id; labels = labels }) named raised fresh first)
 
-  pub added_held : id < 2 ^ 32 → IsLabelSet labels → IsHeld limits (kept_graph names (map vertex_of es) (keys_of places)) → IsHeld limits (kept_graph names' (map vertex_of fs) (keys_of places))
+  pub added_held : id < 2 ^ 32 → IsLabelSet labels → IsWithinLimits limits (kept_graph names (map vertex_of es) (keys_of places)) → IsWithinLimits limits (kept_graph names' (map vertex_of fs) (keys_of places))
   added_held small is_set held =
       let sound : IsVertex (record { id = id; labels = labels }) = record { id = small; labels = is_set } in
       held_after limits (kept_graph names (map vertex_of es) (keys_of places)) (kept_graph names' (map vertex_of fs) (keys_of places)) (AddVertex id labels) held sound added_vertex

@@ -5,4 +5,4 @@ pub mod Table
 pub mod Store
 pub mod Known
 pub mod SetNames
-pub mod Seen
+pub mod Meaning

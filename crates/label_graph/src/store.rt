@@ -4,7 +4,7 @@ ghost use Rattle.std.specs.Map.{keys_of};
 ghost use Rattle.std.proofs.Props.{props};
 ghost use Rattle.flux_model.specs.Graph.{empty_graph};
 ghost use Rattle.flux_model.specs.Limits.{IsFair};
-ghost use Rattle.graph_traits.specs.Held.{IsHeld};
+ghost use Rattle.graph_traits.specs.WithinLimits.{IsWithinLimits};
 ghost use Rattle.label_graph.specs.Places.{ArePlaced, vertex_of};
 ghost use Rattle.label_graph.specs.Store.{IsNamed, kept_graph};
 
@@ -31,11 +31,11 @@ pub struct LabelGraph {
     places: Standing,
     ghost placed: { ArePlaced nodes.entries places.entries },
     ghost named: { IsNamed names (map vertex_of nodes.entries) (keys_of places.entries) },
-    ghost held: { IsHeld limits (kept_graph names (map vertex_of nodes.entries) (keys_of places.entries)) } by { Prim.hlevel props },
+    ghost held: { IsWithinLimits limits (kept_graph names (map vertex_of nodes.entries) (keys_of places.entries)) } by { Prim.hlevel props },
 }
 
 impl LabelGraph {
-    ghost use Rattle.label_graph.specs.Seen.{graph_in};
+    ghost use Rattle.label_graph.specs.Meaning.{graph_in};
 
     /// The empty graph under these limits, which have to be fair.
     pub fn new(alloc: Global, limits: &Limits) -> LabelGraph

@@ -1,6 +1,6 @@
 //! The readers of whole lines.
 ghost use Rattle.std.specs.Prelude.{◌≡◌, ◌∷◌, false, IfOk, MatchOption};
-ghost use Rattle.flux_model.specs.Seen.{seen_line};
+ghost use Rattle.flux_model.specs.LentLine.{seen_line};
 ghost use Rattle.flux_model.specs.Reading.{words_of, is_comment, graph_reading, update_reading, pattern_reading};
 ghost use Rattle.line_grammar.specs.Left.{words_left};
 ghost use Rattle.line_grammar.specs.Parts.{IsSilent};

@@ -9,7 +9,7 @@ use Rattle.std.proofs.lemmas.Option.{get_or_from_slice_get, slice_get_read}
 use Rattle.flux_model.specs.Tree.{QueryTree, least}
 use Rattle.flux_model.specs.Order.{are_neighbours, open_vertices, place_of}
 use Rattle.query_tree.proofs.LeastLemmas.{least_passes}
-use Rattle.match_order.specs.Marks.{HasCount, AreMarks, is_open, is_placed, anchor_of}
+use Rattle.match_order.specs.FrontierState.{HasCount, AreMarks, is_open, is_placed, anchor_of}
 use Rattle.match_order.specs.Steps.{next_place}
 use Rattle.match_order.specs.declared.frontier.Frontier.{Frontier}
 

@@ -1,3 +1,3 @@
-pub mod Marks
+pub mod FrontierState
 pub mod Steps
 pub mod Whole

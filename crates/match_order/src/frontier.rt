@@ -2,7 +2,7 @@
 ghost use Rattle.std.specs.Prelude.{◌≡◌, ◌<◌, ℕ, List, [], ◌∷◌, IfOk, IfSome, length};
 ghost use Rattle.flux_model.specs.Tree.{QueryTree as Tree};
 ghost use Rattle.flux_model.specs.Order.{are_neighbours};
-ghost use Rattle.match_order.specs.Marks.{AreMarks, HasCount, is_open};
+ghost use Rattle.match_order.specs.FrontierState.{AreMarks, HasCount, is_open};
 ghost use Rattle.match_order.specs.Steps.{next_place};
 
 use crate::place::Place;

@@ -3,7 +3,7 @@ ghost use Rattle.std.specs.Prelude.{◌≡◌, ◌-◌, ◌<◌, ◌≤◌, IfOk
 ghost use Rattle.flux_model.specs.Tree.{IsTree};
 ghost use Rattle.flux_model.specs.Order.{search_order};
 ghost use Rattle.match_order.specs.Whole.{IsOrderOf, vertices, anchors, latest_first};
-ghost use Rattle.match_order.specs.Marks.{AreMarks};
+ghost use Rattle.match_order.specs.FrontierState.{AreMarks};
 ghost use Rattle.match_order.specs.Steps.{next_place, with_place};
 
 use crate::frontier::Frontier;

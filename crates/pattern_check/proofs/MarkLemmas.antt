@@ -13,7 +13,7 @@ use borrow.Author.Tests.{eqb-true}
 use Rattle.flux_model.specs.Ordered.{is_in}
 use Rattle.flux_model.specs.Pattern.{HasEnds, is_next_to, reached}
 use Rattle.flux_model.specs.declared.pattern.PatternEdge.{PatternEdge}
-use Rattle.pattern_check.specs.Marks.{is_marked, marked, leads_to, is_near}
+use Rattle.pattern_check.specs.MarkedVertices.{is_marked, marked, leads_to, is_near}
 use Rattle.pattern_check.proofs.ListLemmas.{AllByRecursion-weaker}
 
 -- ---- marks

@@ -2,7 +2,7 @@
 ghost use Rattle.std.specs.Prelude.{◌≡◌, ◌≤◌, ◌<◌, ◌==◌, ℕ, length};
 ghost use Rattle.std.specs.List.{AllByRecursion, list_all};
 ghost use Rattle.flux_model.specs.Pattern.{HasEnds, reached};
-ghost use Rattle.pattern_check.specs.Marks.{is_marked, is_near};
+ghost use Rattle.pattern_check.specs.MarkedVertices.{is_marked, is_near};
 
 use flux_model::PatternEdge;
 

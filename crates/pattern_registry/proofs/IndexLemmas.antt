@@ -12,7 +12,7 @@ use Rattle.flux_model.specs.Tree.{QueryTree, tree, BelongsTo}
 use Rattle.flux_model.specs.Exact.{StateRows, IsExact}
 use Rattle.pattern_registry.specs.declared.index.PatternIndex.{PatternIndex}
 use Rattle.pattern_registry.specs.States.{PatternStates, IsIndexed, AreExact, trees_over}
-use Rattle.pattern_registry.specs.Kept.{pattern_states}
+use Rattle.pattern_registry.specs.Indexes.{pattern_states}
 use Rattle.pattern_registry.proofs.ZipLemmas.{AllZip-append}
 
 abbrev tree_of : PatternIndex → QueryTree

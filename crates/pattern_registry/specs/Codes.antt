@@ -8,7 +8,7 @@ use Rattle.flux_model.specs.declared.pattern.Mode.{Mode}
 use Rattle.flux_model.specs.declared.pattern.Mode.TheVariants.{Hom, Iso}
 use Rattle.flux_model.specs.declared.pattern.PatternEdge.{PatternEdge}
 use Rattle.flux_model.specs.declared.tree.TreeLink.{TreeLink}
-use Rattle.dcg_store.specs.Kept.{state_rows_code}
+use Rattle.dcg_store.specs.SoundRows.{state_rows_code}
 use Rattle.pattern_registry.specs.States.{PatternStates}
 
 abbrev text_code : Coded (List ℕ)

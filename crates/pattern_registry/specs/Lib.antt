@@ -1,4 +1,4 @@
 pub mod States
 pub mod Codes
-pub mod Kept
-pub mod Spent
+pub mod Indexes
+pub mod AnswerCosts

@@ -1,10 +1,10 @@
 //! `PatternIndex`: the tree and the rows of one pattern.
 ghost use Rattle.std.specs.Prelude.{◌≡◌, ◌≤◌, ◌+◌, IfOk, OnOk, IsPermutation};
-ghost use Rattle.flux_model.specs.Costs.{full_cost};
+ghost use Rattle.flux_model.specs.Costs.{no_dead_end_cost};
 ghost use Rattle.flux_model.specs.Embedding.{embeddings};
 ghost use Rattle.flux_model.specs.Exact.{IsExact};
 ghost use Rattle.flux_model.specs.Tree.{tree, BelongsTo};
-ghost use Rattle.tree_search.specs.Spent.{MeetsNoDeadEnd};
+ghost use Rattle.tree_search.specs.SearchCosts.{MeetsNoDeadEnd};
 
 use dcg_store::Dcg;
 use dcg_transition::build;
@@ -53,7 +53,7 @@ impl PatternIndex {
         requires belongs { BelongsTo pattern.now self.now.tree }
         requires exact { IsExact pattern.now self.now.tree (G.graph graph.now) self.now.dcg }
         ensures all { IfOk result (λ maps. IsPermutation (embeddings pattern.now (G.graph graph.now)) maps) }
-        ensures steps { OnOk result (MeetsNoDeadEnd pattern.now self.now.tree → steps.new ≤ steps.old + full_cost pattern.now self.now.tree (G.graph graph.now)) }
+        ensures steps { OnOk result (MeetsNoDeadEnd pattern.now self.now.tree → steps.new ≤ steps.old + no_dead_end_cost pattern.now self.now.tree (G.graph graph.now)) }
     {
         let mut maps = Maps::new(alloc);
         all(

@@ -7,7 +7,7 @@ ghost use Rattle.flux_model.specs.Graph.{Graph};
 ghost use Rattle.flux_model.specs.Pattern.{PatternGraph, vertex_count};
 ghost use Rattle.flux_model.specs.Tree.{BelongsTo};
 ghost use Rattle.pattern_registry.specs.States.{trees_over, IsIndexed, AreExact};
-ghost use Rattle.pattern_registry.specs.Spent.{MeetNoDeadEnd, full_costs};
+ghost use Rattle.pattern_registry.specs.AnswerCosts.{MeetNoDeadEnd, no_dead_end_costs};
 
 use crate::index::PatternIndex;
 use dcg_store::Dcg;
@@ -37,7 +37,7 @@ impl Model for Registry {
 
     ghost coded = { pattern_states_code };
 
-    ghost use Rattle.pattern_registry.specs.Kept.{pattern_states};
+    ghost use Rattle.pattern_registry.specs.Indexes.{pattern_states};
 
     ghost view = { λ r. pattern_states r.patterns r.indexes.items r.is_broken };
 
@@ -83,7 +83,7 @@ impl Registry {
     ) -> Result<Deltas, AllocError>
         requires { AreExact self.now (G.graph graph.now) }
         ensures answers { IfOk result (λ deltas. AreReordered (answer_deltas 0 (G.graph graph.now) self.now.patterns) deltas) }
-        ensures steps { OnOk result (MeetNoDeadEnd self.now → steps.new ≤ steps.old + full_costs (G.graph graph.now) self.now.patterns self.now.trees) }
+        ensures steps { OnOk result (MeetNoDeadEnd self.now → steps.new ≤ steps.old + no_dead_end_costs (G.graph graph.now) self.now.patterns self.now.trees) }
     {
         let mut deltas = Deltas::new(alloc);
         for k in 0..self.patterns.count() {

@@ -23,18 +23,18 @@ pub struct PlainGraph {
 
 impl Model for PlainGraph {
     ghost use Rattle.flux_model.specs.Graph.{LimitedGraph};
-    ghost use Rattle.plain_match.specs.Kept.{IsKept};
+    ghost use Rattle.plain_match.specs.Limited.{KeepsLimits};
 
     ghost Value = { LimitedGraph };
 
     ghost view = { λ p. record { limits = p.limits; graph = record { vertices = p.vertices.items; triples = p.triples.items } } };
 
-    ghost invariant = { λ p. IsKept (record { limits = p.limits; graph = record { vertices = p.vertices.items; triples = p.triples.items } }) };
+    ghost invariant = { λ p. KeepsLimits (record { limits = p.limits; graph = record { vertices = p.vertices.items; triples = p.triples.items } }) };
 }
 
 impl PlainGraph {
     ghost use Rattle.flux_model.specs.Graph.{IsGraph, IsWithin, empty_graph};
-    ghost use Rattle.plain_match.specs.Kept.{IsKept};
+    ghost use Rattle.plain_match.specs.Limited.{KeepsLimits};
 
     /// The empty graph under these limits.
     pub fn new(alloc: Global, limits: &Limits) -> PlainGraph
@@ -76,7 +76,7 @@ impl PlainGraph {
         ensures unchanged { IfOk result (λ answer. OnErr answer (self.new ≡ self.old)) }
         ensures err { OnErr result (self.new ≡ self.old) }
         ensures limits { self.new.limits ≡ self.old.limits }
-        ensures kept { IsKept self.new }
+        ensures kept { KeepsLimits self.new }
     {
         match id_place(self.vertices.as_slice(), id) {
             Ok(_) => Ok(Err(Code::Exists)),
@@ -109,7 +109,7 @@ impl PlainGraph {
         ensures refused { IfErr result (λ code. drop_vertex self.old.graph id ≡ Err code) }
         ensures unchanged { OnErr result (self.new ≡ self.old) }
         ensures limits { self.new.limits ≡ self.old.limits }
-        ensures kept { IsKept self.new }
+        ensures kept { KeepsLimits self.new }
     {
         if !has_id(self.vertices.as_slice(), id) {
             return Err(Code::NoVertex);
@@ -128,7 +128,7 @@ impl PlainGraph {
         ensures unchanged { IfOk result (λ answer. OnErr answer (self.new ≡ self.old)) }
         ensures err { OnErr result (self.new ≡ self.old) }
         ensures limits { self.new.limits ≡ self.old.limits }
-        ensures kept { IsKept self.new }
+        ensures kept { KeepsLimits self.new }
     {
         if !has_both_ends(self.vertices.as_slice(), t) {
             return Ok(Err(Code::NoVertex));
@@ -164,7 +164,7 @@ impl PlainGraph {
         ensures refused { IfErr result (λ code. drop_edge self.old.graph t.now ≡ Err code) }
         ensures unchanged { OnErr result (self.new ≡ self.old) }
         ensures limits { self.new.limits ≡ self.old.limits }
-        ensures kept { IsKept self.new }
+        ensures kept { KeepsLimits self.new }
     {
         if !has_both_ends(self.vertices.as_slice(), t) {
             return Err(Code::NoVertex);

@@ -6,7 +6,7 @@ use Rattle.std.proofs.lemmas.List.{get_or-drop, take-append-le, drop-append-le, 
 use Rattle.std.proofs.lemmas.List.Splits.{slice_split-cons_yes, slice_split-cons_no}
 use Rattle.std.specs.List.{onto_first}
 use Rattle.flux_model.specs.Lines.{parts, open_end}
-use Rattle.stream_lines.specs.Kept.{IsOpenPlace, IsFirstLen}
+use Rattle.stream_lines.specs.Buffer.{IsOpenPlace, IsFirstLen}
 use Rattle.memchr.specs.Find.{Nowhere, Passes, is_byte}
 use Rattle.stream_lines.proofs.PartsLemmas.{open_end-end, parts-behind, parts-first-append}
 

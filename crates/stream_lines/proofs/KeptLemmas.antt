@@ -5,7 +5,7 @@ use Rattle.std.proofs.Math.Seq.{take-add}
 use Rattle.std.proofs.lemmas.List.{length-take, length-drop, take_all, drop-append-le}
 use Rattle.std.proofs.lemmas.Bool.Decides.{nat_tests}
 use Rattle.flux_model.specs.Lines.{InputLine, held, long, without_return, line_of, parts, all_but_last, last_part, open_end, whole, rest_of, rest, last_line, lines}
-use Rattle.stream_lines.specs.Kept.{IsFirstLen, IsOpenPlace, Stands}
+use Rattle.stream_lines.specs.Buffer.{IsFirstLen, IsOpenPlace, Stands}
 use Rattle.stream_lines.specs.Waiting.{Waiting}
 use Rattle.stream_lines.specs.Follows.{Follows, rest_line}
 use Rattle.stream_lines.proofs.PartsLemmas.{onto, parts-cons, parts-front, whole-onto, open_end-onto, open_end-no_lines, whole-first}

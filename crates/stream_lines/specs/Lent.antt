@@ -1,7 +1,7 @@
 -- What a line that is lent is seen as, if there is one.
 use Rattle.std.specs.Prelude.{List, [], ◌∷◌, Option, None, Some}
 use Rattle.flux_model.specs.Lines.{InputLine}
-use Rattle.flux_model.specs.Seen.{seen_line}
+use Rattle.flux_model.specs.LentLine.{seen_line}
 use Rattle.flux_model.specs.declared.line.Line.{Line}
 
 abbrev pub one_line : Option Line → List InputLine

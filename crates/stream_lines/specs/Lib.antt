@@ -1,5 +1,5 @@
 pub mod Waiting
 pub mod Follows
 pub mod Lent
-pub mod Kept
+pub mod Buffer
 pub mod Cuts

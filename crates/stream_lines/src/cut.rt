@@ -1,8 +1,8 @@
 //! Where the lines of a slice end.
 ghost use Rattle.std.specs.Prelude.{◌≡◌, ◌≤◌, ◌+◌, ◌++◌, List, ℕ, length, take};
 ghost use Rattle.flux_model.specs.Lines.{line_of, open_end};
-ghost use Rattle.flux_model.specs.Seen.{seen_line};
-ghost use Rattle.stream_lines.specs.Kept.{IsFirstLen, IsOpenPlace, Stands};
+ghost use Rattle.flux_model.specs.LentLine.{seen_line};
+ghost use Rattle.stream_lines.specs.Buffer.{IsFirstLen, IsOpenPlace, Stands};
 
 use flux_model::Line;
 use memchr::{memchr, memrchr};

@@ -27,7 +27,7 @@ impl Model for Lines {
     ghost use Rattle.std.specs.Prelude.{drop};
     ghost use Rattle.flux_model.specs.Lines.{whole, rest};
     ghost use Rattle.stream_lines.specs.Waiting.{Waiting};
-    ghost use Rattle.stream_lines.specs.Kept.{IsKept};
+    ghost use Rattle.stream_lines.specs.Buffer.{IsBuffer};
 
     ghost Value = { Waiting };
 
@@ -37,7 +37,7 @@ impl Model for Lines {
       rest = rest s.line_bytes (drop s.start s.bytes.items);
     } };
 
-    ghost invariant = { λ s. IsKept s.line_bytes s.bytes.items s.start s.first_len s.open_len };
+    ghost invariant = { λ s. IsBuffer s.line_bytes s.bytes.items s.start s.first_len s.open_len };
 }
 
 impl Lines {

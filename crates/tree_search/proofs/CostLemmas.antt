@@ -27,7 +27,7 @@ use Rattle.dcg_transition.specs.declared.direction.Direction.{Direction}
 use Rattle.dcg_transition.specs.declared.direction.Direction.TheVariants.{Out, In as Inward}
 use Rattle.tree_search.specs.Given.{IsReady, IsGiven, IsRowAt, nth_vertex, nth_anchor, may_have}
 use Rattle.tree_search.specs.Members.{members_from, members_over}
-use Rattle.tree_search.specs.Spent.{MeetsNoDeadEnd, test_cost, cost_from, members_cost}
+use Rattle.tree_search.specs.SearchCosts.{MeetsNoDeadEnd, test_cost, cost_from, members_cost}
 use Rattle.tree_search.proofs.MemberLemmas.{given_id}
 use Rattle.tree_search.proofs.PassLemmas.{member}
 use Rattle.tree_search.proofs.GivenLemmas.{row_split}

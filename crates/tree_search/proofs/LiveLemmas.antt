@@ -32,7 +32,7 @@ use Rattle.dcg_transition.specs.Ends.{triple_of, direction_to}
 use Rattle.dcg_transition.specs.declared.direction.Direction.TheVariants.{Out, In as Inward}
 use Rattle.tree_search.specs.Given.{IsReady, IsGiven, IsRowAt, nth_vertex, nth_anchor, may_have, edge_between}
 use Rattle.tree_search.specs.Members.{members_from, ids_of}
-use Rattle.tree_search.specs.Spent.{MeetsNoDeadEnd}
+use Rattle.tree_search.specs.SearchCosts.{MeetsNoDeadEnd}
 use Rattle.tree_search.proofs.MemberLemmas.{members_with}
 use Rattle.tree_search.proofs.EndLemmas.{in_all}
 use Rattle.tree_search.proofs.GivenLemmas.{vertex_inside, vertex_free, given_next, number_down}

@@ -1,3 +1,3 @@
 pub mod Members
 pub mod Given
-pub mod Spent
+pub mod SearchCosts

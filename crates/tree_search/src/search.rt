@@ -1,7 +1,7 @@
 //! `all`: the search for all embeddings of a pattern.
 ghost use Rattle.std.specs.Prelude.{◌≡◌, ◌≤◌, ◌+◌, ◌<◌, ◌++◌, [], ◌∷◌, Some, None, false, IsTrue, IsSome, IfOk, OnOk, OnErr, length, slice_get};
 ghost use Rattle.flux_model.specs.Embedding.{embeddings};
-ghost use Rattle.flux_model.specs.Costs.{full_cost};
+ghost use Rattle.flux_model.specs.Costs.{no_dead_end_cost};
 ghost use Rattle.flux_model.specs.Exact.{IsExact};
 ghost use Rattle.flux_model.specs.Partial.{id_of};
 ghost use Rattle.flux_model.specs.Pattern.{vertex_count};
@@ -12,7 +12,7 @@ ghost use Rattle.graph_traits.specs.Numbers.{IsNumberOf};
 ghost use Rattle.match_order.specs.Whole.{vertices, IsOrderOf};
 ghost use Rattle.nontree_test.specs.Numbered.{AreNumbersOf};
 ghost use Rattle.tree_search.specs.Given.{IsReady, IsGiven, IsRowAt, may_have, edge_of, edge_between};
-ghost use Rattle.tree_search.specs.Spent.{MeetsNoDeadEnd, test_cost, members_cost};
+ghost use Rattle.tree_search.specs.SearchCosts.{MeetsNoDeadEnd, test_cost, members_cost};
 ghost use Rattle.tree_search.specs.Members.{members_from, ids_of, GrewByAll, GrewBySome};
 
 use crate::found::Found;
@@ -46,7 +46,7 @@ pub fn all<G: ReadGraph<L>, F: Found, L: Ledger>(
     requires exact { IsExact pattern.now tree.now (G.graph graph.now) dcg.now }
     ensures found { OnOk result (GrewByAll (F.list found.old) (F.list found.new) (embeddings pattern.now (G.graph graph.now))) }
     ensures some { OnErr result (GrewBySome (F.list found.old) (F.list found.new) (embeddings pattern.now (G.graph graph.now))) }
-    ensures steps { OnOk result (MeetsNoDeadEnd pattern.now tree.now → steps.new ≤ steps.old + full_cost pattern.now tree.now (G.graph graph.now)) }
+    ensures steps { OnOk result (MeetsNoDeadEnd pattern.now tree.now → steps.new ≤ steps.old + no_dead_end_cost pattern.now tree.now (G.graph graph.now)) }
 {
     let search = Search {
         pattern,

@@ -1,7 +1,7 @@
 //! Files, read piece by piece and line by line.
 ghost use Rattle.std.specs.Prelude.{◌≡◌, ◌≤◌, ◌<◌, ◌+◌, ◌^◌, [], false, List, ℕ, length, take, Ok, Err, OnOk, IfErr, IfOk};
 ghost use Rattle.flux_model.specs.Lines.{InputLine};
-ghost use Rattle.flux_model.specs.Seen.{seen_line};
+ghost use Rattle.flux_model.specs.LentLine.{seen_line};
 ghost use Rattle.flux_model.specs.Limits.{IsFair};
 ghost use Rattle.flux_model.specs.FileReading.{read_from};
 ghost use Rattle.flux_model.specs.Verdict.{Verdict};

@@ -1,6 +1,6 @@
 //! A graph file: its lines go into a graph.
 ghost use Rattle.std.specs.Prelude.{◌≡◌, ℕ, Bool, false, Result, Ok, Err, IfOk, OnOk, MatchResult};
-ghost use Rattle.flux_model.specs.Seen.{seen_line};
+ghost use Rattle.flux_model.specs.LentLine.{seen_line};
 ghost use Rattle.watch_core.specs.Repeated.{is_repeat};
 ghost use Rattle.watch_cli.specs.Taking.{after_graph_line};
 

@@ -1,6 +1,6 @@
 //! A pattern file: its lines go into a reader of patterns.
 ghost use Rattle.std.specs.Prelude.{◌≡◌, ℕ, Bool, false, Result, Ok, Err, IfOk, OnOk, MatchResult};
-ghost use Rattle.flux_model.specs.Seen.{seen_line};
+ghost use Rattle.flux_model.specs.LentLine.{seen_line};
 ghost use Rattle.watch_cli.specs.Taking.{after_pattern_line};
 
 use crate::take::TakeLine;

@@ -2,7 +2,7 @@
 ghost use Rattle.std.specs.Prelude.{◌≡◌, ◌≤◌, ◌<◌, ◌+◌, ◌^◌, ◌++◌, [], length, OnOk, OnErr, IfErr};
 ghost use Rattle.std.specs.Io.KnownBytes.{Appends};
 ghost use Rattle.flux_outside.specs.Told.{AppendsFront};
-ghost use Rattle.flux_model.specs.Seen.{seen_line};
+ghost use Rattle.flux_model.specs.LentLine.{seen_line};
 ghost use Rattle.flux_model.specs.Reading.{update_reading};
 ghost use Rattle.watch_cli.specs.Session.{after_said, after_all, next_block, next_blocks, said_by, last_text, end_text};
 ghost use Rattle.stream_lines.specs.Lent.{one_line};

@@ -1,6 +1,6 @@
 //! The updates, one line at a time.
 ghost use Rattle.std.specs.Prelude.{◌≡◌, ◌≤◌, ◌<◌, ◌+◌, ◌^◌, ◌++◌, OnOk, OnErr, IfOk};
-ghost use Rattle.flux_model.specs.Seen.{seen_line};
+ghost use Rattle.flux_model.specs.LentLine.{seen_line};
 ghost use Rattle.flux_model.specs.Reading.{update_reading};
 ghost use Rattle.flux_model.specs.Report.{outcome, graph_after, block_of, block};
 ghost use Rattle.flux_model.specs.Grown.{GrewByFront};

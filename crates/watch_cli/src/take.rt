@@ -1,7 +1,7 @@
 //! What a file is read into, line by line.
 ghost use Rattle.std.specs.Prelude.{◌≡◌, ℕ, Bool, false, Result, Ok, Err, IfOk, OnOk, MatchResult};
 ghost use Rattle.flux_model.specs.Lines.{InputLine};
-ghost use Rattle.flux_model.specs.Seen.{seen_line};
+ghost use Rattle.flux_model.specs.LentLine.{seen_line};
 ghost use Rattle.flux_model.specs.declared.code.Bad.{Bad};
 
 use flux_model::{Bad, Line};

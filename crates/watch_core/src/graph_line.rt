@@ -4,7 +4,7 @@ ghost use Rattle.flux_model.specs.FileReading.{refused_at};
 ghost use Rattle.flux_model.specs.Graph.{IsGraph, apply as after_update};
 ghost use Rattle.flux_model.specs.GraphFile.{graph_after_line};
 ghost use Rattle.flux_model.specs.Reading.{graph_reading};
-ghost use Rattle.flux_model.specs.Seen.{seen_line};
+ghost use Rattle.flux_model.specs.LentLine.{seen_line};
 ghost use Rattle.graph_traits.specs.Changes.{IfNotMade};
 ghost use Rattle.watch_core.specs.Repeated.{is_repeat};
 

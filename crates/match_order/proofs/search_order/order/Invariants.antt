@@ -1,6 +1,6 @@
 use Rattle.std.proofs.Common.{◌≡◌, ◌-◌, length}
 use Rattle.flux_model.specs.Order.{search_order}
-use Rattle.match_order.specs.Marks.{AreMarks}
+use Rattle.match_order.specs.FrontierState.{AreMarks}
 use Rattle.match_order.specs.Whole.{latest_first}
 use Rattle.match_order.proofs.PlaceLemmas.{completed}
 use Rattle.match_order.proofs.search_order.order.Given as goal

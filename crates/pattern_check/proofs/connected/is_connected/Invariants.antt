@@ -1,6 +1,6 @@
 use Rattle.std.proofs.Common.{◌≡◌}
 use Rattle.flux_model.specs.Pattern.{reached}
-use Rattle.pattern_check.specs.Marks.{marked}
+use Rattle.pattern_check.specs.MarkedVertices.{marked}
 use Rattle.pattern_check.proofs.connected.is_connected.Given as goal
 
 -- the vertices that are seen are those that so many rounds reach

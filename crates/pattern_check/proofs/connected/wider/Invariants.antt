@@ -1,5 +1,5 @@
 use Rattle.std.proofs.Common.{◌≡◌, ℕ, ◌<◌, length, take}
-use Rattle.pattern_check.specs.Marks.{is_marked, is_near}
+use Rattle.pattern_check.specs.MarkedVertices.{is_marked, is_near}
 use Rattle.pattern_check.proofs.connected.wider.Given as goal
 
 -- the edges so far have been followed

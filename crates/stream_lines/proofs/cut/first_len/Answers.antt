@@ -1,6 +1,6 @@
 use Rattle.std.specs.Prelude.{ℕ, List, Option, None, Some}
 use Rattle.memchr.specs.Find.{IsFirstByte, is_byte}
-use Rattle.stream_lines.specs.Kept.{IsFirstLen}
+use Rattle.stream_lines.specs.Buffer.{IsFirstLen}
 use Rattle.stream_lines.proofs.EndLemmas.{parts-nowhere, parts-first}
 use Rattle.stream_lines.proofs.cut.first_len.Goals as goal
 

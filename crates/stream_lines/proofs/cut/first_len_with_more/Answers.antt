@@ -1,6 +1,6 @@
 use Rattle.std.proofs.Common.{take, arith, subst, sym}
 use Rattle.std.proofs.lemmas.Grind.{common_steps}
-use Rattle.stream_lines.specs.Kept.{IsFirstLen}
+use Rattle.stream_lines.specs.Buffer.{IsFirstLen}
 use Rattle.stream_lines.proofs.EndLemmas.{first-found, none-found, first-further}
 use Rattle.stream_lines.proofs.cut.first_len_with_more.Goals as goal
 

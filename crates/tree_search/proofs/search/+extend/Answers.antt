@@ -9,7 +9,7 @@ use Rattle.tree_search.proofs.EndLemmas.{end_stands}
 use Rattle.tree_search.proofs.GivenLemmas.{anchor_stands}
 use Rattle.tree_search.proofs.WholeLemmas.{one_member}
 use Rattle.tree_search.proofs.TurnLemmas.{turn_open, turn_back, turn_found, turn_stop, turn_skip, turn_given, turns_start, others_stand}
-use Rattle.tree_search.specs.Spent.{cost_from, members_cost}
+use Rattle.tree_search.specs.SearchCosts.{cost_from, members_cost}
 use Rattle.tree_search.proofs.CostLemmas.{start_paid, turn_steps, skip_steps, end_paid}
 use Rattle.tree_search.proofs.search.+extend.Goals as goal
 

@@ -5,7 +5,7 @@ use Rattle.label_graph.specs.Sorted.{In}
 use Rattle.match_order.specs.Whole.{vertices}
 use Rattle.dcg_transition.specs.Ends.{row_from, triple_of, ends_from, IsPlaceOf}
 use Rattle.tree_search.specs.Members.{members_from, members_over, GrewUpTo}
-use Rattle.tree_search.specs.Spent.{MeetsNoDeadEnd, cost_from, members_cost}
+use Rattle.tree_search.specs.SearchCosts.{MeetsNoDeadEnd, cost_from, members_cost}
 use Rattle.tree_search.proofs.search.+extend.Given as goal
 
 abbrev pub decreases-extend : goal.decreases-extend

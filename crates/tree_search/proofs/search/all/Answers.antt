@@ -9,7 +9,7 @@ use Rattle.tree_search.proofs.TurnLemmas.{root_start, root_split, root_open, nex
 use Rattle.std.specs.List.{sum_by}
 use Rattle.std.proofs.lemmas.List.Sorted.{sum_by-IsPermutation}
 use Rattle.flux_model.specs.Costs.{embedding_cost}
-use Rattle.tree_search.specs.Spent.{members_cost}
+use Rattle.tree_search.specs.SearchCosts.{members_cost}
 use Rattle.tree_search.proofs.CostLemmas.{root_paid, root_steps, loose_steps, not_explicit}
 use Rattle.tree_search.proofs.search.all.Goals as goal
 use Rattle.tree_search.proofs.search.all.Goals.{then-may_have+in_ok-extend, else-may_have}

@@ -2,7 +2,7 @@ use Rattle.std.proofs.Common.{◌≡◌, ◌+◌, ◌≤◌, [], ◌∷◌, leng
 use Rattle.std.proofs.lemmas.Result.{err_from_is_err_and, on_ok_weaker, IfErr-weaker}
 use Rattle.std.proofs.lemmas.Grind.{common_steps}
 use Rattle.flux_model.specs.Lines.{whole}
-use Rattle.flux_model.specs.Seen.{seen_line}
+use Rattle.flux_model.specs.LentLine.{seen_line}
 use Rattle.watch_cli.proofs.FileLemmas.{told_at_first, piece_len, lines_fit, some_lines_fit, taken-last, one-line, FileRead-next, ReadAs-none, ReadAs-end, ReadAs-longer, StopWhere-refused, StopWhere-last}
 use Rattle.watch_cli.proofs.files.read_file.Goals as goal
 

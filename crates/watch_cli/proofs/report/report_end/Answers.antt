@@ -1,6 +1,6 @@
 use Rattle.std.proofs.lemmas.Result.{err_from_is_err_and, on_ok_weaker, on_err_weaker}
 use Rattle.flux_model.specs.Reading.{update_reading}
-use Rattle.flux_model.specs.Seen.{seen_line}
+use Rattle.flux_model.specs.LentLine.{seen_line}
 use Rattle.watch_cli.proofs.ReportLemmas.{last_put, last_short, last_stopped, none_put, none_short}
 use Rattle.watch_cli.proofs.report.report_end.Goals as goal
 

@@ -1,5 +1,5 @@
 use Rattle.flux_model.specs.Reading.{update_reading}
-use Rattle.flux_model.specs.Seen.{seen_line}
+use Rattle.flux_model.specs.LentLine.{seen_line}
 use Rattle.watch_cli.specs.Session.{next_block}
 use Rattle.watch_cli.proofs.ReportLemmas.{gathered_put, put_either}
 use Rattle.watch_cli.proofs.report.report_line.Goals as goal

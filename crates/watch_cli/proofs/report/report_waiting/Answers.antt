@@ -1,7 +1,7 @@
 use Rattle.std.proofs.Common.{◌≡◌, ◌+◌, ap, arith, refl, [], subst, List}
 use Rattle.std.proofs.lemmas.Result.{err_from_is_err_and, on_err_weaker}
 use Rattle.flux_model.specs.Lines.{InputLine}
-use Rattle.flux_model.specs.Seen.{seen_line}
+use Rattle.flux_model.specs.LentLine.{seen_line}
 use Rattle.watch_cli.specs.Session.{WatchState, said_by}
 use Rattle.watch_cli.proofs.ReportLemmas.{Reported, Reported-turn, Reported-stops, Reported-end_short, one_less, nothing_waits}
 use Rattle.watch_cli.proofs.report.report_waiting.Goals as goal

@@ -1,5 +1,5 @@
 use Rattle.std.proofs.Common.{◌≡◌, ◌∙◌, sym, ap, Ok}
-use Rattle.flux_model.specs.Seen.{seen_line}
+use Rattle.flux_model.specs.LentLine.{seen_line}
 use Rattle.watch_core.proofs.GraphLineLemmas.{line-changes, line-repeats, line-refused}
 use Rattle.watch_core.proofs.graph_line.take_graph_line.Goals as goal
 

@@ -1,5 +1,5 @@
 use Rattle.std.proofs.Common.{sym, ap, ◌∙◌}
-use Rattle.dcg_store.specs.Kept.{live_count}
+use Rattle.dcg_store.specs.SoundRows.{live_count}
 use Rattle.dcg_store.specs.Layers.{live_in}
 use Rattle.dcg_store.proofs.PairLemmas.{live-rows_of}
 use Rattle.dcg_store.proofs.RowsLemmas.{layer_read}

@@ -1,7 +1,7 @@
 use Rattle.std.proofs.Common.{◌≡◌, ℕ, ◌<◌, ◌-◌, ◌^◌, List, length, ap, ◌∙◌, arith}
 use Rattle.std.specs.Prelude.{slice_index}
 use Rattle.flux_model.specs.Exact.{Row, StateRows}
-use Rattle.dcg_store.specs.Kept.{IsKeptRow}
+use Rattle.dcg_store.specs.SoundRows.{IsSoundRow}
 use Rattle.dcg_store.specs.Counters.{more_outs}
 use Rattle.dcg_store.proofs.RowsLemmas.{allows, moves-changed, keeps-more_outs}
 use Rattle.dcg_store.proofs.dcg.Dcg.raise_out.Goals as goal
@@ -12,7 +12,7 @@ Allows j row = slice_index row.outs j < 2 ^ 32 - 1
 abbrev AllowsInside : ℕ → Row → Type 0
 AllowsInside j row = (j < length row.outs) × (slice_index row.outs j < 2 ^ 32 - 1)
 
-inside : (j : ℕ) (children : List ℕ) (d : StateRows) (u : ℕ) → children ≡ d.children → j < slice_index d.children u → (row : Row) → IsKeptRow children u row → Allows j row → AllowsInside j row
+inside : (j : ℕ) (children : List ℕ) (d : StateRows) (u : ℕ) → children ≡ d.children → j < slice_index d.children u → (row : Row) → IsSoundRow children u row → Allows j row → AllowsInside j row
 inside j children d u same child row this h =
     let wide = this.width ∙ ap (λ l. slice_index l u) same in
     (omega (arith, wide, child), h)

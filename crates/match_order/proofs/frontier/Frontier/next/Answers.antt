@@ -1,5 +1,5 @@
 use Rattle.std.proofs.Common.{◌≡◌, ◌∙◌, sym, ap, length, is_some, rules, arith}
-use Rattle.match_order.specs.Marks.{is_open}
+use Rattle.match_order.specs.FrontierState.{is_open}
 use Rattle.match_order.proofs.FrontierLemmas.{next_none, next_some, anchor_read, open_anchored}
 use Rattle.match_order.proofs.frontier.Frontier.next.Goals as goal
 

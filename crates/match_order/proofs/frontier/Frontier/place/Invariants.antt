@@ -1,5 +1,5 @@
 use Rattle.std.proofs.Common.{ℕ, List, length}
-use Rattle.match_order.specs.Marks.{AreMarks, HasCount}
+use Rattle.match_order.specs.FrontierState.{AreMarks, HasCount}
 use Rattle.match_order.proofs.FrontierLemmas.{ArePartMarks}
 use Rattle.match_order.proofs.frontier.Frontier.place.Given as goal
 

@@ -1,6 +1,6 @@
 use Rattle.std.proofs.Common.{List, [], sym, subst}
 use Rattle.flux_model.specs.Order.{Place}
-use Rattle.match_order.specs.Marks.{AreMarks}
+use Rattle.match_order.specs.FrontierState.{AreMarks}
 use Rattle.match_order.specs.Whole.{latest_first}
 use Rattle.match_order.proofs.search_order.Growth.new.Goals as goal
 

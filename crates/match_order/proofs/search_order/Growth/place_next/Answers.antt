@@ -1,6 +1,6 @@
 use Rattle.std.proofs.Common.{ℕ, List, ◌∷◌, sym, ap, subst}
 use Rattle.flux_model.specs.Order.{Place, SearchOrder}
-use Rattle.match_order.specs.Marks.{AreMarks}
+use Rattle.match_order.specs.FrontierState.{AreMarks}
 use Rattle.match_order.specs.Whole.{latest_first}
 use Rattle.match_order.proofs.PlaceLemmas.{latest_more}
 use Rattle.match_order.proofs.search_order.Growth.place_next.Goals as goal

@@ -5,7 +5,7 @@ use Rattle.flux_model.specs.Graph.{Graph, triple_cmp, has_both_ends, has_triple,
 use Rattle.flux_model.specs.declared.code.Code.{Code}
 use Rattle.flux_model.specs.declared.graph.Vertex.{Vertex}
 use Rattle.flux_model.specs.declared.graph.Triple.{Triple}
-use Rattle.plain_match.specs.Kept.{IsKept}
+use Rattle.plain_match.specs.Limited.{KeepsLimits}
 use Rattle.flux_laws.proofs.LimitLemmas.{with_triple_within}
 use Rattle.flux_laws.proofs.OneMoreLemmas.{with_triple_graph, add_edge_ok}
 use Rattle.plain_match.proofs.graph.PlainGraph.add_edge.Goals as goal
@@ -41,9 +41,9 @@ room c =
     ∙ ap (λ (ts : List Triple). name_count (record { vertices = c.self.inside.vertices.items; triples = ts }) (c.args.t.now.label ∷ [])) c.as_slice-in-Err-2.ensures.value in
     (λ i. nat_le c.self.inside.limits.edges (sym len i) || nat_lt c.self.inside.limits.labels (sym count i)) ∙ sym c.is_full.ensures ∙ c.if-is_full.false
 
-is_kept : (c : goal.In_ok-insert-in-Err) → IsKept (record { limits = c.self.inside.limits; graph = record { vertices = c.self.inside.vertices.items; triples = c.insert.new.self.items } })
+is_kept : (c : goal.In_ok-insert-in-Err) → KeepsLimits (record { limits = c.self.inside.limits; graph = record { vertices = c.self.inside.vertices.items; triples = c.insert.new.self.items } })
 is_kept c =
-    subst (λ (ts : List Triple). IsKept (record { limits = c.self.inside.limits; graph = record { vertices = c.self.inside.vertices.items; triples = ts } })) (sym (made c))
+    subst (λ (ts : List Triple). KeepsLimits (record { limits = c.self.inside.limits; graph = record { vertices = c.self.inside.vertices.items; triples = ts } })) (sym (made c))
     (record {
       graph = with_triple_graph (before c) c.args.t.now c.self.invariant.graph c.bytes.ensures.text (ends c);
       within = with_triple_within c.self.inside.limits (before c) c.args.t.now c.self.invariant.within (room c);

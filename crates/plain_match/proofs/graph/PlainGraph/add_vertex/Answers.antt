@@ -4,7 +4,7 @@ use Rattle.flux_model.specs.Ordered.{put}
 use Rattle.flux_model.specs.Graph.{Graph, vertex_cmp, name_count}
 use Rattle.flux_model.specs.declared.graph.Vertex.{Vertex}
 use Rattle.flux_model.specs.declared.graph.Triple.{Triple}
-use Rattle.plain_match.specs.Kept.{IsKept}
+use Rattle.plain_match.specs.Limited.{KeepsLimits}
 use Rattle.flux_laws.proofs.OneMoreLemmas.{with_vertex_graph}
 use Rattle.flux_laws.proofs.LimitLemmas.{with_vertex_within}
 use Rattle.plain_match.proofs.graph.PlainGraph.add_vertex.Goals as goal
@@ -32,9 +32,9 @@ room c =
     ∙ ap (λ (ts : List Triple). name_count (record { vertices = c.self.inside.vertices.items; triples = ts }) c.args.labels.now) c.as_slice-in-Err-2.ensures.value in
     (λ i. nat_le c.self.inside.limits.vertices (sym len i) || nat_lt c.self.inside.limits.labels (sym count i)) ∙ sym c.is_full.ensures ∙ c.if-is_full.false
 
-is_kept : (c : goal.In_ok-insert-in-Err) → IsKept (record { limits = c.self.inside.limits; graph = record { vertices = c.insert.new.self.items; triples = c.self.inside.triples.items } })
+is_kept : (c : goal.In_ok-insert-in-Err) → KeepsLimits (record { limits = c.self.inside.limits; graph = record { vertices = c.insert.new.self.items; triples = c.self.inside.triples.items } })
 is_kept c =
-    subst (λ (vs : List Vertex). IsKept (record { limits = c.self.inside.limits; graph = record { vertices = vs; triples = c.self.inside.triples.items } })) (sym (made c))
+    subst (λ (vs : List Vertex). KeepsLimits (record { limits = c.self.inside.limits; graph = record { vertices = vs; triples = c.self.inside.triples.items } })) (sym (made c))
     (record {
       graph = with_vertex_graph (before c) (added c) c.self.invariant.graph (record { id = omega (arith, c.ranges.id); labels = c.len-in-Err.ensures.set });
       within = with_vertex_within c.self.inside.limits (before c) (added c) c.self.invariant.within (room c);

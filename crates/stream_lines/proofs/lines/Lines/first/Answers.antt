@@ -1,6 +1,6 @@
 use Rattle.std.proofs.Common.{◌≡◌, [], ◌∷◌, drop, take, length, ◌-◌, arith, subst}
 use Rattle.std.proofs.lemmas.Grind.{common_steps}
-use Rattle.flux_model.specs.Seen.{seen_line}
+use Rattle.flux_model.specs.LentLine.{seen_line}
 use Rattle.stream_lines.specs.Waiting.{Waiting}
 use Rattle.stream_lines.proofs.KeptLemmas.{first-line}
 use Rattle.stream_lines.proofs.lines.Lines.first.Goals as goal

@@ -1,7 +1,7 @@
 use Rattle.std.proofs.Common.{◌≡◌, [], ◌∷◌, drop, take, length, ◌-◌, ap, ◌∙◌, arith, subst}
 use Rattle.std.proofs.lemmas.Grind.{common_steps}
 use Rattle.std.proofs.lemmas.Bool.Decides.{nat_tests}
-use Rattle.flux_model.specs.Seen.{seen_line}
+use Rattle.flux_model.specs.LentLine.{seen_line}
 use Rattle.stream_lines.specs.Waiting.{Waiting}
 use Rattle.stream_lines.specs.Follows.{rest_line}
 use Rattle.stream_lines.proofs.KeptLemmas.{last-line, last-lines}

@@ -1,5 +1,5 @@
 use Rattle.std.proofs.Common.{◌≡◌, ◌∙◌, sym, subst}
-use Rattle.flux_model.specs.Seen.{seen_line}
+use Rattle.flux_model.specs.LentLine.{seen_line}
 use Rattle.flux_model.specs.Graph.{IsGraph, LimitedGraph}
 use Rattle.watch_cli.proofs.GraphFileLemmas.{line-changes, line-repeats, line-refused}
 use Rattle.watch_cli.proofs.graph_file.PlainGraphTakeLine.accept.Goals as goal

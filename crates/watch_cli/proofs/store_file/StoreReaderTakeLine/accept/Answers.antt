@@ -1,5 +1,5 @@
 use Rattle.std.proofs.Common.{◌≡◌, Ok, Err, subst}
-use Rattle.flux_model.specs.Seen.{seen_line}
+use Rattle.flux_model.specs.LentLine.{seen_line}
 use Rattle.flux_model.specs.Graph.{LimitedGraph}
 use Rattle.watch_cli.specs.Taking.{after_graph_line}
 use Rattle.watch_cli.proofs.GraphFileLemmas.{store-takes, store-refuses}

@@ -3,7 +3,7 @@ use Rattle.std.specs.Prelude.{nat_le, nat_lt}
 use Rattle.std.specs.Map.{keys_of}
 use Rattle.flux_model.specs.Graph.{Graph, name_count}
 use Rattle.label_graph.specs.declared.link.Node.{Node}
-use Rattle.graph_traits.specs.Held.{IsHeld}
+use Rattle.graph_traits.specs.WithinLimits.{IsWithinLimits}
 use Rattle.label_graph.specs.Places.{ArePlaced, vertex_of}
 use Rattle.label_graph.specs.Store.{kept_graph}
 use Rattle.label_graph.proofs.StoreLemmas.{has_vertex_of}
@@ -27,7 +27,7 @@ returns-then-lacks_room-clause-refused c =
 pub invariant_of-self-in-Break-branch-3 : goal.invariant_of-self-in-Break-branch-3
 invariant_of-self-in-Break-branch-3 c =
     let P : List (ℕ × Node) → Type 0 = λ nodes. ArePlaced nodes c.args.self.now.places.entries in
-    let Q : Graph → Type 0 = λ g. IsHeld c.args.self.now.limits g in
+    let Q : Graph → Type 0 = λ g. IsWithinLimits c.args.self.now.limits g in
     record {
       placed = subst P (sym c.reserve.ensures.entries) c.args.self.now.placed;
       named = kept_named c.args.self.now.names c.raise_all.new.self c.args.self.now.nodes.entries c.reserve.new.self.entries (keys_of c.args.self.now.places.entries) c.in_err-raise_all.ensures.same c.reserve.ensures.entries c.args.self.now.named;

@@ -6,11 +6,11 @@ use Rattle.flux_model.specs.Graph.{Graph}
 use Rattle.flux_model.specs.declared.graph.Vertex.{Vertex}
 use Rattle.flux_model.specs.declared.graph.Update.TheVariants.{AddEdge}
 use Rattle.label_graph.specs.declared.link.Link.{Link}
-use Rattle.graph_traits.specs.Held.{IsHeld}
+use Rattle.graph_traits.specs.WithinLimits.{IsWithinLimits}
 use Rattle.label_graph.specs.Places.{vertex_of, outs, ins, out_link, in_link}
 use Rattle.label_graph.proofs.SameLemmas.{same_row}
 use Rattle.label_graph.specs.Store.{kept_graph, IsNamed}
-use Rattle.label_graph.specs.Seen.{graph_in}
+use Rattle.label_graph.specs.Meaning.{graph_in}
 use Rattle.label_graph.proofs.StoreLemmas.{no_src, no_dst, both_ends, named_added, back_same, same_named, same_graph_of}
 use Rattle.label_graph.proofs.FullLemmas.{add_edge_apart, add_edge_stands, add_edge_full, known_triple, absent_link, full_is}
 use Rattle.label_graph.proofs.EdgeLemmas.{edge_added}
@@ -84,7 +84,7 @@ pub invariant_of-self-in-Err : goal.invariant_of-self-in-Err
 invariant_of-self-in-Err c =
     let slots = (back_same c.args.self.now.names c.raise.new.self c.lower.new.self c.in_ok-label.label c.args.triple.now.label c.find-known.ensures.table c.in_ok-label.ensures.was c.in_ok-label.ensures.here c.in_ok-label.ensures.others c.lower.ensures.here c.lower.ensures.others) in
     let same = same_graph_of c.args.self.now.names c.lower.new.self (map vertex_of c.args.self.now.nodes.entries) (map vertex_of c.join.new.nodes.entries) (keys_of c.args.self.now.places.entries) (keys_of c.join.new.places.entries) slots c.join.ensures.vertices c.in-Err.ensures.same in
-    let P : Graph → Type 0 = λ g. IsHeld c.args.self.now.limits g in
+    let P : Graph → Type 0 = λ g. IsWithinLimits c.args.self.now.limits g in
     record {
       placed = c.join.ensures.placed;
       named = same_named c.args.self.now.names c.lower.new.self (map vertex_of c.args.self.now.nodes.entries) (map vertex_of c.join.new.nodes.entries) (keys_of c.args.self.now.places.entries) (keys_of c.join.new.places.entries) slots c.join.ensures.vertices c.in-Err.ensures.same c.args.self.now.named;

@@ -5,7 +5,7 @@ use Rattle.flux_model.specs.declared.graph.Update.TheVariants.{DropEdge}
 use Rattle.label_graph.specs.declared.link.Link.{Link}
 use Rattle.label_graph.specs.Places.{vertex_of, link_eq}
 use Rattle.label_graph.specs.Store.{kept_graph}
-use Rattle.label_graph.specs.Seen.{graph_in}
+use Rattle.label_graph.specs.Meaning.{graph_in}
 use Rattle.label_graph.proofs.HeldLemmas.{held_after}
 use Rattle.label_graph.proofs.EdgeLemmas.{edge_removed}
 use Rattle.label_graph.proofs.StoreLemmas.{has_triple_found, has_triple_unknown, drop_edge_apart, drop_edge_absent, no_src, no_dst, both_ends, removed_named}

@@ -8,14 +8,14 @@ use Rattle.flux_model.specs.Exact.{Row, StateRows, pair_cmp, row_at}
 use Rattle.dcg_store.specs.Counters.{is_full}
 
 -- a row of a pair of the pattern vertex u has a joint that leads in, and a counter for each child of u
-pub record IsKeptRow (children : List ℕ) (u : ℕ) (row : Row) : Type 0 where
+pub record IsSoundRow (children : List ℕ) (u : ℕ) (row : Row) : Type 0 where
   pub inside : u < length children
   pub has_ins : 0 < row.ins
   pub width : length row.outs ≡ slice_index children u
 
 -- each row is as above
-pub record IsKept (d : StateRows) : Type 0 where
-  pub rows : (u v : ℕ) (row : Row) → row_at d u v ≡ Some row → IsKeptRow d.children u row
+pub record HasSoundRows (d : StateRows) : Type 0 where
+  pub rows : (u v : ℕ) (row : Row) → row_at d u v ≡ Some row → IsSoundRow d.children u row
 
 -- whether the entry is an explicit pair of the pattern vertex u
 abbrev pub is_live : ℕ → (ℕ × ℕ) × Row → Bool

@@ -22,7 +22,7 @@ pub record Stands (n : ℕ) (came kept : List ℕ) (left : ℕ) : Type 0 where
   pub open_len : length (open_end kept) ≡ left
 
 -- what is known of the bytes from the first line on
-pub record IsKept (n : ℕ) (bytes : List ℕ) (from : ℕ) (len : Option ℕ) (left : ℕ) : Type 0 where
+pub record IsBuffer (n : ℕ) (bytes : List ℕ) (from : ℕ) (len : Option ℕ) (left : ℕ) : Type 0 where
   pub limit : n ≤ 4096
   pub start : from ≤ length bytes
   pub first : IsFirstLen (drop from bytes) len
