@@ -1,5 +1,6 @@
 pub mod AscendingLemmas
 pub mod ChangesLemmas
+pub mod ClassesLemmas
 pub mod ConnectedLemmas
 pub mod EmbeddingsLemmas
 pub mod ExactLemmas

@@ -1,4 +1,5 @@
 pub mod ChangesLaws
+pub mod ClassesLaws
 pub mod EmbeddingsLaws
 pub mod FilesLaws
 pub mod GraphsLaws

@@ -24,3 +24,4 @@ pub mod Exact
 pub mod Order
 pub mod Costs
 pub mod Partial
+pub mod Classes

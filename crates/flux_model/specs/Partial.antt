@@ -1,10 +1,12 @@
 -- Ids for some of a pattern's vertices, as a search gives them one after another.
-use Rattle.std.specs.Prelude.{ℕ, ◌==◌, ◌||◌, not, Bool, true, false, List, Option, Some, None, slice_index_or, slice_set}
-use Rattle.std.specs.List.{list_any, list_all}
+use Rattle.std.specs.Prelude.{ℕ, ◌==◌, ◌&&◌, ◌||◌, not, Bool, true, false, List, Option, Some, None, slice_index_or, slice_set}
+use Rattle.std.specs.List.{list_any, list_all, range_with_len}
+use Rattle.std.specs.Str.{bytes_eq}
 use Rattle.flux_model.specs.Ordered.{are_distinct_by}
 use Rattle.flux_model.specs.Graph.{Graph, has_triple}
 use Rattle.flux_model.specs.Pattern.{PatternGraph}
 use Rattle.flux_model.specs.Tree.{QueryTree, edge_at, non_tree}
+use Rattle.flux_model.specs.declared.graph.Triple.{Triple}
 use Rattle.flux_model.specs.declared.pattern.Mode.{Mode}
 use Rattle.flux_model.specs.declared.pattern.Mode.TheVariants.{Hom, Iso}
 use Rattle.flux_model.specs.declared.pattern.PatternEdge.{PatternEdge}
@@ -62,3 +64,17 @@ is_free Iso m x = not (list_any (same_id (Some x)) m)
 abbrev pub keeps_mode_where_given : Mode → List (Option ℕ) → Bool
 keeps_mode_where_given Hom m = true
 keeps_mode_where_given Iso m = are_distinct_by same_id m
+
+-- ---- edges that are sent to a triple
+
+-- both ends of the edge have ids, which with its label are the triple
+abbrev pub is_sent_where_given : Triple → List (Option ℕ) → PatternEdge → Bool
+is_sent_where_given t m e = same_id (Some t.src) (id_of m e.tail) && same_id (Some t.dst) (id_of m e.head) && bytes_eq e.label t.label
+
+-- w is an end of the edge, which with x for w is sent to the triple
+abbrev pub edge_sends : List (Option ℕ) → ℕ → ℕ → Triple → PatternEdge → Bool
+edge_sends m w x t e = has_end w e && is_sent_where_given t (with_id m w x) e
+
+-- with x for w, some edge of a number below i that has w as an end is sent to the triple
+abbrev pub earlier : PatternGraph → ℕ → List (Option ℕ) → ℕ → ℕ → Triple → Bool
+earlier q i m w x t = list_any (λ k. edge_sends m w x t (edge_at q k)) (range_with_len 0 i)
