@@ -5,7 +5,7 @@ ghost use Rattle.flux_model.specs.declared.graph.Triple.{Triple};
 ghost use Rattle.flux_model.specs.declared.limits.Limits.{Limits};
 ghost use Rattle.graph_traits.specs.Rows.{triples_from, triples_to};
 ghost use Rattle.graph_traits.specs.Numbers.{IsNumberOf, LacksLabel};
-ghost use Rattle.graph_traits.specs.Held.{IsHeld};
+ghost use Rattle.graph_traits.specs.WithinLimits.{IsWithinLimits};
 ghost use Rattle.graph_traits.specs.declared.spot.Spot.{Spot};
 
 use crate::spot::Spot;
@@ -44,12 +44,12 @@ pub trait HoldGraph: Drop {
     fn vertex_count(&self) -> u64
         ensures count { result ≡ length (graph self.now).vertices }
         ensures listed { IsPermutation (listed self.now) (ids (graph self.now)) }
-        ensures held { IsHeld (limits self.now) (graph self.now) };
+        ensures held { IsWithinLimits (limits self.now) (graph self.now) };
 
     /// How many triples there are.
     fn edge_count(&self) -> u64
         ensures count { result ≡ length (graph self.now).triples }
-        ensures held { IsHeld (limits self.now) (graph self.now) };
+        ensures held { IsWithinLimits (limits self.now) (graph self.now) };
 
     /// How many triples begin at `v`, which has to be a vertex.
     fn out_degree(&self, v: u32) -> u64
@@ -77,4 +77,6 @@ pub trait HoldGraph: Drop {
     fn label_number(&self, label: &Text) -> Option<u32>
         ensures number { IsNumberOf (label_text self.now) label.now result }
         ensures absent { IfNone result (LacksLabel label.now (graph self.now).triples) };
+    /// The number from which whatever hashes beside the store is to hash. Nothing is said of it, so that no answer depends on it.
+    fn seed(&self) -> u64;
 }

@@ -4,7 +4,7 @@ ghost use Rattle.std.specs.Map.{lookup, keys_of};
 ghost use Rattle.flux_model.specs.Graph.{has_vertex};
 ghost use Rattle.label_graph.specs.Names.{text_at};
 ghost use Rattle.label_graph.specs.Places.{outs, ins};
-ghost use Rattle.label_graph.specs.Seen.{graph_in, outs_in, ins_in, IsOfVertex};
+ghost use Rattle.label_graph.specs.Meaning.{graph_in, outs_in, ins_in, IsOfVertex};
 
 use crate::link::Node;
 use crate::store::LabelGraph;
@@ -96,5 +96,9 @@ impl HoldGraph for LabelGraph {
 
     fn label_number(&self, label: &Text) -> Option<u32> {
         self.names.find(label)
+    }
+
+    fn seed(&self) -> u64 {
+        0
     }
 }
