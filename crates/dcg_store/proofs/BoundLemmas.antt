@@ -22,7 +22,8 @@ use Rattle.flux_model.specs.Tree.{link_at, children, IsTree}
 use Rattle.flux_model.specs.States.{Joint, Joined, reaches_within, reaches}
 use Rattle.flux_model.specs.Exact.{Row, StateRows, pair_cmp, row_at, in_count, out_count, IsExactOver}
 use Rattle.dcg_store.proofs.PairLemmas.{pair_cmp_total, first, second}
-use Rattle.dcg_store.proofs.ListLemmas.{In, found_in, list_any-in, in-append_left, in-append_right, in-map, in-range_from}
+use Rattle.flux_model.specs.Members.{In}
+use Rattle.flux_model.proofs.MemberLemmas.{in_any, any_in, in_append_left, in_append_right, in_mapped, in_range}
 use Rattle.dcg_store.proofs.StateLemmas.{reaches_up, reaches_loose, inside_of_reaches}
 
 -- ---- the keys of a map are distinct
@@ -56,14 +57,14 @@ ends : Joined → List ℕ → List (ℕ × ℕ)
 ends j [] = []
 ends j (u ∷ us) = map (end_of u) (j.joints u) ++ ends j us
 
-in-ends : (j : Joined) (u : ℕ) (e : Joint) (us : List ℕ) → In u us → In e (j.joints u) → In (end_of u e) (ends j us)
+in_ends : (j : Joined) (u : ℕ) (e : Joint) (us : List ℕ) → In us u → In (j.joints u) e → In (ends j us) (end_of u e)
 unfolding ends
-in-ends j u e [] m among = absurd m
-in-ends j u e (w ∷ us) m among =
+in_ends j u e [] m among = absurd m
+in_ends j u e (w ∷ us) m among =
     elim m [
-      | inl same ↦ in-append_left (end_of u e) (map (end_of w) (j.joints w)) (ends j us)
-          (subst (λ z. In (end_of u e) (map (end_of z) (j.joints z))) same (in-map (end_of u) e (j.joints u) among))
-      | inr m ↦ in-append_right (end_of u e) (map (end_of w) (j.joints w)) (ends j us) (in-ends j u e us m among)
+      | inl same ↦ in_append_left (map (end_of w) (j.joints w)) (ends j us) (end_of u e)
+          (subst (λ z. In (map (end_of z) (j.joints z)) (end_of u e)) same (in_mapped (end_of u) (j.joints u) e among))
+      | inr m ↦ in_append_right (map (end_of w) (j.joints w)) (ends j us) (end_of u e) (in_ends j u e us m among)
     ]
 
 length-ends : (j : Joined) (most : ℕ) → ((u : ℕ) → length (j.joints u) ≤ most) → (us : List ℕ) → length (ends j us) ≤ length us * most
@@ -77,28 +78,28 @@ length-ends j most few (u ∷ us) =
 candidates : Joined → List ℕ → List (ℕ × ℕ)
 candidates j vs = map (pair j.tree.root) vs ++ ends j (range_with_len 0 (length j.tree.links))
 
-module _ (j : Joined) (is : IsTree j.tree) (vs : List ℕ) (ends_root : (v : ℕ) → j.fits j.tree.root v ≡ true → In v vs) where
-  at_root : (u v : ℕ) → (u == j.tree.root) ≡ true → j.fits u v ≡ true → In (pair u v) (candidates j vs)
+module _ (j : Joined) (is : IsTree j.tree) (vs : List ℕ) (ends_root : (v : ℕ) → j.fits j.tree.root v ≡ true → In vs v) where
+  at_root : (u v : ℕ) → (u == j.tree.root) ≡ true → j.fits u v ≡ true → In (candidates j vs) (pair u v)
   unfolding candidates
   at_root u v same fit =
       let root : u ≡ j.tree.root = eqb-true u j.tree.root same in
-      in-append_left (pair u v) (map (pair j.tree.root) vs) (ends j (range_with_len 0 (length j.tree.links)))
-      (subst (λ z. In (pair z v) (map (pair j.tree.root) vs)) (sym root) (in-map (pair j.tree.root) v vs (ends_root v (ap (λ z. j.fits z v) (sym root) ∙ fit))))
+      in_append_left (map (pair j.tree.root) vs) (ends j (range_with_len 0 (length j.tree.links))) (pair u v)
+      (subst (λ z. In (map (pair j.tree.root) vs) (pair z v)) (sym root) (in_mapped (pair j.tree.root) vs v (ends_root v (ap (λ z. j.fits z v) (sym root) ∙ fit))))
 
-  below_joint : (u v : ℕ) (p : Joint → Bool) → u < length j.tree.links → list_any (λ e. e.below == v && p e) (j.joints u) ≡ true → In (pair u v) (candidates j vs)
+  below_joint : (u v : ℕ) (p : Joint → Bool) → u < length j.tree.links → list_any (λ e. e.below == v && p e) (j.joints u) ≡ true → In (candidates j vs) (pair u v)
   unfolding candidates
   below_joint u v p inside h =
-      let e = found_in (λ e. e.below == v && p e) (j.joints u) h in
+      let e = in_any (λ e. e.below == v && p e) (j.joints u) h in
       let same : e.0.below ≡ v = eqb-true e.0.below v (and_parts (e.0.below == v) (p e.0) e.2).0 in
-      in-append_right (pair u v) (map (pair j.tree.root) vs) (ends j (range_with_len 0 (length j.tree.links)))
-      (subst (λ z. In (pair u z) (ends j (range_with_len 0 (length j.tree.links)))) same
-      (in-ends j u e.0 (range_with_len 0 (length j.tree.links)) (in-range_from u 0 (length j.tree.links) (omega arith) (omega (arith, inside))) e.1))
+      in_append_right (map (pair j.tree.root) vs) (ends j (range_with_len 0 (length j.tree.links))) (pair u v)
+      (subst (λ z. In (ends j (range_with_len 0 (length j.tree.links))) (pair u z)) same
+      (in_ends j u e.0 (range_with_len 0 (length j.tree.links)) (in_range 0 (length j.tree.links) u (omega arith) (omega (arith, inside))) e.1))
 
-  reached_in : (k u v : ℕ) → reaches_within k j u v ≡ true → In (pair u v) (candidates j vs)
+  reached_in : (k u v : ℕ) → reaches_within k j u v ≡ true → In (candidates j vs) (pair u v)
   reached_in zero u v h = absurd (let bad : false ≡ true = h in cc)
   reached_in (suc k) u v h = by (link_at j.tree u) refl
     where
-      by : (o : Option TreeLink) → link_at j.tree u ≡ o → In (pair u v) (candidates j vs)
+      by : (o : Option TreeLink) → link_at j.tree u ≡ o → In (candidates j vs) (pair u v)
       by None e =
           let parts = and_parts (j.fits u v) (u == j.tree.root || false) (sym (reaches_loose j k u v e) ∙ h) in
           elim (or_cases (u == j.tree.root) false parts.1) [ inl same ↦ at_root u v same parts.0 | inr bad ↦ absurd (let no_bool : false ≡ true = bad in cc) ]
@@ -116,7 +117,7 @@ some_of : (b : Bool) (row : Row) → is_some (if b then Some row else None) ≡ 
 some_of true row = refl
 some_of false row = refl
 
-pub len-le-reached : (j : Joined) (d : StateRows) → IsTree j.tree → IsExactOver j d → (vs : List ℕ) (most : ℕ) → ((v : ℕ) → j.fits j.tree.root v ≡ true → In v vs)
+pub len-le-reached : (j : Joined) (d : StateRows) → IsTree j.tree → IsExactOver j d → (vs : List ℕ) (most : ℕ) → ((v : ℕ) → j.fits j.tree.root v ≡ true → In vs v)
     → ((u : ℕ) → length (j.joints u) ≤ most) → len d.rows ≤ most * length j.tree.links + length vs
 unfolding candidates
 len-le-reached j d is exact vs most ends_root few =
@@ -136,16 +137,16 @@ len-le-reached j d is exact vs most ends_root few =
 
     among : (p : ℕ × ℕ) → list_any (eq_by_cmp pair_cmp p) (keys d.rows) ≡ true → list_any (eq_by_cmp pair_cmp p) (candidates j vs) ≡ true
     among p h =
-        list_any-in (eq_by_cmp pair_cmp p) p (candidates j vs) (reached_in j is vs ends_root (length j.tree.links) p.0 p.1 (reached p.0 p.1 (contains_key-keys d.rows p ∙ h)))
+        any_in (eq_by_cmp pair_cmp p) (candidates j vs) p (reached_in j is vs ends_root (length j.tree.links) p.0 p.1 (reached p.0 p.1 (contains_key-keys d.rows p ∙ h)))
         (ap is_eq (tied_itself pair_cmp_total p))
 
 -- ---- of a graph and a pattern
 
-pub fits-id : (q : PatternGraph) (u : ℕ) (g : Graph) (v : ℕ) → fits q u g v ≡ true → In v (ids g)
+pub fits-id : (q : PatternGraph) (u : ℕ) (g : Graph) (v : ℕ) → fits q u g v ≡ true → In (ids g) v
 fits-id q u g v h =
     let labels = slice_index_or q.labels u [] in
-    let w = found_in (λ (x : Vertex). x.id == v && is_within labels x.labels) g.vertices (and_parts _ _ h).1 in
-    subst (λ z. In z (ids g)) (eqb-true w.0.id v (and_parts (w.0.id == v) (is_within labels w.0.labels) w.2).0) (in-map (λ (x : Vertex). x.id) w.0 g.vertices w.1)
+    let w = in_any (λ (x : Vertex). x.id == v && is_within labels x.labels) g.vertices (and_parts _ _ h).1 in
+    subst (λ z. In (ids g) z) (eqb-true w.0.id v (and_parts (w.0.id == v) (is_within labels w.0.labels) w.2).0) (in_mapped (λ (x : Vertex). x.id) g.vertices w.0 w.1)
 
 pub length-filter_map : {X Y : Type 0} (f : X → Option Y) (xs : List X) → length (filter_map f xs) ≤ length xs
 length-filter_map {X} {Y} f [] = omega arith

@@ -15,7 +15,7 @@ use Rattle.dcg_store.specs.Counters.{is_full}
 use Rattle.dcg_store.specs.SoundRows.{is_live, live_count}
 use Rattle.dcg_store.proofs.CountLemmas.{bit, equal, remove_missing, count-remove}
 use Rattle.dcg_store.proofs.PairLemmas.{pair_cmp_total, pair_cmp-IsAntisymmetric, same_pair, first, second}
-use Rattle.dcg_store.proofs.ListLemmas.{In}
+use Rattle.flux_model.specs.Members.{In}
 use Rattle.dcg_store.proofs.BoundLemmas.{strict}
 
 -- ---- nothing is counted where no look-up finds what passes
@@ -45,7 +45,7 @@ abbrev pub has_full : Option Row → Bool
 has_full None = false
 has_full (Some row) = is_full row
 
-pub count_by-alike : (p q : ℕ → Bool) (vs : List ℕ) → ((v : ℕ) → In v vs → p v ≡ q v) → count_by p vs ≡ count_by q vs
+pub count_by-alike : (p q : ℕ → Bool) (vs : List ℕ) → ((v : ℕ) → In vs v → p v ≡ q v) → count_by p vs ≡ count_by q vs
 count_by-alike p q [] h = refl
 count_by-alike p q (v ∷ vs) h =
     let here = ap bit (h v (inl refl)) in
@@ -53,7 +53,7 @@ count_by-alike p q (v ∷ vs) h =
     let new = sum_by-cons (λ y. bit (q y)) v vs in
     omega (arith, here, old, new, count_by-alike p q vs (λ w m. h w (inr m)))
 
-other_in : (v w : ℕ) (vs : List ℕ) → AllByRecursion (λ y. nat_eq v y ≡ false) vs → In w vs → nat_eq v w ≡ false
+other_in : (v w : ℕ) (vs : List ℕ) → AllByRecursion (λ y. nat_eq v y ≡ false) vs → In vs w → nat_eq v w ≡ false
 other_in v w [] h m = absurd m
 other_in v w (x ∷ vs) h m = elim m [ inl same ↦ ap (nat_eq v) same ∙ h.0 | inr m ↦ other_in v w vs h.1 m ]
 
@@ -76,7 +76,7 @@ module _ (u : ℕ) where
   get_apart rows v w =
       get-remove pair_cmp_total rows (u, v) (u, w) ∙ ap (λ b. cond b None (get rows (u, w))) (same_pair (u, w) (u, v) ∙ ap (λ b. b && w == v) (eq-eqb u u refl))
 
-  count_over : (vs : List ℕ) (rows : FinMap pair_cmp Row) → IsDistinct nat_eq vs → ((v : ℕ) → has_full (get rows (u, v)) ≡ true → In v vs) → live_in_rows rows ≡ count_by (λ v. has_full (get rows (u, v))) vs
+  count_over : (vs : List ℕ) (rows : FinMap pair_cmp Row) → IsDistinct nat_eq vs → ((v : ℕ) → has_full (get rows (u, v)) ≡ true → In vs v) → live_in_rows rows ≡ count_by (λ v. has_full (get rows (u, v))) vs
   unfolding live_in_rows IsDistinct
   count_over [] rows distinct all =
       count_by-none pair_cmp_total pair_cmp-IsAntisymmetric (is_live u) (entries rows) (entries_sorted rows) (λ k row found. none k row (k.0 == u && is_full row) refl (get-entries rows k ∙ found))
@@ -97,11 +97,11 @@ module _ (u : ℕ) where
       no_bool : true ≡ false → ⊥
       no_bool bad = absurd (let e : true ≡ false = bad in cc)
 
-      others : (w : ℕ) (b : Bool) → (w == v) ≡ b → has_full (cond b None (get rows (u, w))) ≡ true → In w vs
+      others : (w : ℕ) (b : Bool) → (w == v) ≡ b → has_full (cond b None (get rows (u, w))) ≡ true → In vs w
       others w true e h = absurd (let bad : false ≡ true = h in cc)
       others w false e h = elim (all w h) [ inl same ↦ absurd (no_bool (sym (eq-eqb w v same) ∙ e)) | inr m ↦ m ]
 
 -- the explicit pairs of u are counted over any list of distinct vertices that has each of them
-pub live_count-over : (d : StateRows) (u : ℕ) (vs : List ℕ) → IsDistinct nat_eq vs → ((v : ℕ) → has_full (row_at d u v) ≡ true → In v vs) → live_count d u ≡ count_by (λ v. has_full (row_at d u v)) vs
+pub live_count-over : (d : StateRows) (u : ℕ) (vs : List ℕ) → IsDistinct nat_eq vs → ((v : ℕ) → has_full (row_at d u v) ≡ true → In vs v) → live_count d u ≡ count_by (λ v. has_full (row_at d u v)) vs
 unfolding live_in_rows
 live_count-over d u vs distinct all = count_over u vs d.rows distinct all

@@ -9,7 +9,9 @@ use Rattle.flux_model.specs.declared.tree.TreeLink.{TreeLink}
 use Rattle.flux_model.specs.States.{Joint, Joined, reaches_within, extends_within, reaches, extends, is_explicit}
 use Rattle.flux_model.specs.Exact.{out_count}
 use Rattle.dcg_store.specs.Counters.{is_full}
-use Rattle.dcg_store.proofs.ListLemmas.{In, list_any-alike, list_all-alike, some_counted, list_any-in, in-filter, in-range}
+use Rattle.flux_model.specs.Members.{In}
+use Rattle.flux_model.proofs.MemberLemmas.{list_any-alike, list_all-alike, any_in, filter_in, range_in}
+use Rattle.dcg_store.proofs.ListLemmas.{some_counted}
 
 -- each vertex is one deeper than its parent, and none is as deep as there are vertices
 pub record HasDepths (t : QueryTree) (depth : ℕ → ℕ) : Type 0 where
@@ -25,10 +27,10 @@ child_link t u c h = by (link_at t c) refl
     by None e = absurd (let bad : is_child t u c ≡ false = rw e refl in let no_bool : false ≡ true = sym bad ∙ h in cc)
     by (Some l) e = let same : is_child t u c ≡ (l.parent == u) = rw e refl in (l, e, eqb-true l.parent u (sym same ∙ h))
 
-pub child_of : (t : QueryTree) (u c : ℕ) → In c (children t u) → (c < length t.links) × (l : TreeLink) × (link_at t c ≡ Some l) × (l.parent ≡ u)
+pub child_of : (t : QueryTree) (u c : ℕ) → In (children t u) c → (c < length t.links) × (l : TreeLink) × (link_at t c ≡ Some l) × (l.parent ≡ u)
 child_of t u c m =
-    let r = in-filter (is_child t u) c (range_with_len 0 (length t.links)) m in
-    let low = in-range c 0 (length t.links) r.0 in
+    let r = filter_in (is_child t u) (range_with_len 0 (length t.links)) c m in
+    let low = (range_in 0 (length t.links) c r.0).1 in
     let link = child_link t u c r.1 in
     (omega (arith, low), link.0, link.1, link.2)
 
@@ -109,7 +111,7 @@ module _ (j : Joined) (depth : ℕ → ℕ) (deep : HasDepths j.tree depth) wher
   when false x y h = refl
 
   -- the lower end of a joint from a vertex that is reached is reached, if it fits
-  pub reaches_below : (u v c : ℕ) (l : TreeLink) (e : Joint) → c < length j.tree.links → link_at j.tree c ≡ Some l → l.parent ≡ u → In e (j.joints c) → e.above ≡ v
+  pub reaches_below : (u v c : ℕ) (l : TreeLink) (e : Joint) → c < length j.tree.links → link_at j.tree c ≡ Some l → l.parent ≡ u → In (j.joints c) e → e.above ≡ v
       → reaches j u v ≡ true → j.fits c e.below ≡ true → reaches j c e.below ≡ true
   reaches_below u v c l e inside link parent among above reached fit =
       let n = length j.tree.links in
@@ -117,7 +119,7 @@ module _ (j : Joined) (depth : ℕ → ℕ) (deep : HasDepths j.tree depth) wher
       reaches_stable n (suc n) c e.below (deep.shallow c inside) (let low = deep.shallow c inside in omega (arith, low))
       ∙ reaches_up j n c e.below l link
       ∙ and_from (j.fits c e.below) _ fit
-      (or_right (c == j.tree.root) _ (list_any-in (λ x. x.below == e.below && reaches_within n j l.parent x.above) e (j.joints c) among (and_from _ _ (eq-eqb e.below e.below refl) up)))
+      (or_right (c == j.tree.root) _ (any_in (λ x. x.below == e.below && reaches_within n j l.parent x.above) (j.joints c) e among (and_from _ _ (eq-eqb e.below e.below refl) up)))
 
   -- of a vertex that is reached, each child's counter is at least 1 exactly where it extends
   pub full_is_extends : IsTree j.tree → (u v ins : ℕ) → reaches j u v ≡ true → is_full (record { ins = ins; outs = map (out_count j v) (children j.tree u) }) ≡ extends j u v

@@ -18,7 +18,7 @@ use Rattle.flux_model.specs.declared.tree.TreeLink.{TreeLink}
 use Rattle.graph_traits.specs.WithinLimits.{IsWithinLimits}
 use Rattle.query_tree.specs.Depth.{depth}
 use Rattle.query_tree.proofs.CallerLemmas.{depth-below, child_once, parent_within}
-use Rattle.dcg_store.proofs.ListLemmas.{In}
+use Rattle.flux_model.specs.Members.{In}
 use Rattle.dcg_store.proofs.StateLemmas.{child_of, fits_of_reaches, full_is_extends}
 use Rattle.dcg_transition.specs.Branches.{IsBranchOf, ends, opens_from, opens_among, IsTallied}
 use Rattle.dcg_transition.specs.Ends.{whole_row, ends_of}
@@ -33,7 +33,7 @@ use Rattle.dcg_transition.proofs.ReachLemmas.{implied, in_any_row, vertex_of_fit
 
 -- ---- rows whose children are counted
 
-map_alike : (f h : ℕ → ℕ) (cs : List ℕ) → ((c : ℕ) → In c cs → f c ≡ h c) → map f cs ≡ map h cs
+map_alike : (f h : ℕ → ℕ) (cs : List ℕ) → ((c : ℕ) → In cs c → f c ≡ h c) → map f cs ≡ map h cs
 map_alike f h [] e = refl
 map_alike f h (c ∷ cs) e = λ i. e c (inl refl) i ∷ map_alike f h cs (λ d m. e d (inr m)) i
 
@@ -42,12 +42,12 @@ module _ (j : Joined) where
   abbrev counted : (ℕ → Bool) → ℕ → ℕ → ℕ
   counted done v c = cond (done c) (out_count j v c) 0
 
-  pub row_alike : (done also : ℕ → Bool) (u v : ℕ) → ((c : ℕ) → In c (children j.tree u) → done c ≡ also c) → counted_row done j u v ≡ counted_row also j u v
+  pub row_alike : (done also : ℕ → Bool) (u v : ℕ) → ((c : ℕ) → In (children j.tree u) c → done c ≡ also c) → counted_row done j u v ≡ counted_row also j u v
   row_alike done also u v e =
       ap (λ outs. cond (reaches j u v) (Some (record { ins = in_count j u v; outs = outs })) None)
       (map_alike (counted done v) (counted also v) (children j.tree u) (λ c m. ap (λ b. cond b (out_count j v c) 0) (e c m)))
 
-  pub row_settled : (done : ℕ → Bool) (u v : ℕ) → ((c : ℕ) → In c (children j.tree u) → done c ≡ true) → counted_row done j u v ≡ row_of j u v
+  pub row_settled : (done : ℕ → Bool) (u v : ℕ) → ((c : ℕ) → In (children j.tree u) c → done c ≡ true) → counted_row done j u v ≡ row_of j u v
   row_settled done u v e =
       ap (λ outs. cond (reaches j u v) (Some (record { ins = in_count j u v; outs = outs })) None)
       (map_alike (counted done v) (out_count j v) (children j.tree u) (λ c m. ap (λ b. cond b (out_count j v c) 0) (e c m)))
@@ -56,10 +56,10 @@ module _ (j : Joined) where
   counted_alike done also d e is = record { whole = is.whole; children = is.children; rows = λ u v. is.rows u v ∙ row_alike done also u v (λ c _. e c) }
 
   -- exact, where each child is counted
-  pub all_counted : (done : ℕ → Bool) (d : StateRows) → ((u c : ℕ) → In c (children j.tree u) → done c ≡ true) → IsCounted j done d → IsExactOver j d
+  pub all_counted : (done : ℕ → Bool) (d : StateRows) → ((u c : ℕ) → In (children j.tree u) c → done c ≡ true) → IsCounted j done d → IsExactOver j d
   all_counted done d e is = record { whole = is.whole; children = is.children; rows = λ u v. is.rows u v ∙ row_settled done u v (e u) }
 
-pub child_deeper : (t : QueryTree) → IsTree t → (u c : ℕ) → In c (children t u) → depth t c ≡ suc (depth t u)
+pub child_deeper : (t : QueryTree) → IsTree t → (u c : ℕ) → In (children t u) c → depth t c ≡ suc (depth t u)
 child_deeper t is u c m =
     let child = child_of t u c m in
     depth-below t is c child.1 child.2 ∙ ap (λ p. suc (depth t p)) child.3
@@ -184,7 +184,7 @@ module _ (q : PatternGraph) (t : QueryTree) (belongs : BelongsTo q t) (b : Branc
       by true = refl
       by false = refl
 
-  pub in_rows_out : (vs : List ℕ) → ((v : ℕ) → list_any (nat_eq v) vs ≡ is_some (row_at old b.link.parent v)) → (v : ℕ) → reaches from_parent b.link.parent v ≡ true → In v vs
+  pub in_rows_out : (vs : List ℕ) → ((v : ℕ) → list_any (nat_eq v) vs ≡ is_some (row_at old b.link.parent v)) → (v : ℕ) → reaches from_parent b.link.parent v ≡ true → In vs v
   in_rows_out vs rows v h = in_any_row vs v (rows v ∙ (parent_reaches v ∙ h))
 
   pub row_stands_out : (v : ℕ) → is_some (row_at old b.link.parent v) ≡ true → has_vertex g v ≡ true
@@ -197,7 +197,7 @@ module _ (q : PatternGraph) (t : QueryTree) (belongs : BelongsTo q t) (b : Branc
       ∙ ap (λ s. cond s (option_map (with_more_outs b.number (so_many vs v)) (row_at old b.link.parent v)) (row_at old b.link.parent v)) (eq-eqb b.link.parent b.link.parent refl))
       ∙ (mapped_some (with_more_outs b.number (so_many vs v)) (row_at old b.link.parent v) ∙ some)
 
-  module _ (limits : Limits) (held : IsWithinLimits limits g) (listed : List ℕ) (distinct : IsDistinct nat_eq listed) (inside : (y : ℕ) → reaches from_parent b.link.parent y ≡ true → In y listed) where
+  module _ (limits : Limits) (held : IsWithinLimits limits g) (listed : List ℕ) (distinct : IsDistinct nat_eq listed) (inside : (y : ℕ) → reaches from_parent b.link.parent y ≡ true → In listed y) where
     so_many-listed : (y : ℕ) → reaches from_parent b.link.parent y ≡ true → so_many listed y ≡ tally old y
     so_many-listed y reached = so_many-all listed y (once y (tally old y) listed distinct (inside y reached))
 

@@ -1,8 +1,8 @@
 -- The rows of one pattern vertex, from those of its parent.
 use Rattle.std.proofs.Common.{◌≡◌, ℕ, zero, suc, ◌+◌, ◌-◌, ◌^◌, ◌<◌, ◌≤◌, Bool, true, false, cond, ◌==◌, ◌&&◌, nat_lt, List, [], ◌∷◌, map, length, take, inl, inr, refl, sym, ap, subst, ◌∙◌, arith}
-use Rattle.std.specs.Prelude.{◌⊎◌, Option, None, Some, count_by, nat_eq, slice_index, slice_index_or, replicate}
+use Rattle.std.specs.Prelude.{◌⊎◌, None, Some, count_by, nat_eq, slice_index, slice_index_or, replicate}
 use Rattle.std.specs.Option.{is_some}
-use Rattle.std.specs.List.{sum_by, list_any, filter_map, cons_option, IsDistinct}
+use Rattle.std.specs.List.{sum_by, list_any, IsDistinct}
 use Rattle.std.specs.Str.{bytes_eq}
 use Rattle.std.proofs.lemmas.Bool.{and_parts, eqb-true, eq-eqb, lt-ltb, cases_eq}
 use Rattle.std.proofs.lemmas.List.{take_all}
@@ -22,7 +22,9 @@ use Rattle.flux_model.specs.declared.tree.TreeLink.{TreeLink}
 use Rattle.graph_traits.specs.WithinLimits.{IsWithinLimits}
 use Rattle.query_tree.specs.Depth.{depth}
 use Rattle.query_tree.proofs.CallerLemmas.{link_within, depth-below}
-use Rattle.dcg_store.proofs.ListLemmas.{In, some_counted, found_in, list_any-in}
+use Rattle.flux_model.specs.Members.{In}
+use Rattle.flux_model.proofs.MemberLemmas.{in_any, any_in, filter_map_in}
+use Rattle.dcg_store.proofs.ListLemmas.{some_counted}
 use Rattle.dcg_store.proofs.StateLemmas.{fits_of_reaches}
 use Rattle.dcg_store.proofs.BoundLemmas.{length-filter_map}
 use Rattle.dcg_transition.specs.Ends.{whole_row, ends_of, direction_to}
@@ -66,14 +68,6 @@ some_if false row = refl
 
 -- ---- what is in a list of joints
 
-from_filter_map : {X Y : Type 0} (f : X → Option Y) (y : Y) (xs : List X) → In y (filter_map f xs) → (x : X) × (f x ≡ Some y)
-from_filter_map {X} {Y} f y [] m = absurd m
-from_filter_map {X} {Y} f y (x ∷ xs) m = by (f x) refl m (from_filter_map f y xs)
-  where
-    by : (o : Option Y) → f x ≡ o → In y (cons_option o (filter_map f xs)) → (In y (filter_map f xs) → (z : X) × (f z ≡ Some y)) → (z : X) × (f z ≡ Some y)
-    by None e m rest = rest m
-    by (Some z) e m rest = elim m [ inl same ↦ (x, e ∙ ap (λ w. Some w) (sym same)) | inr later ↦ rest later ]
-
 kept_some : (b : Bool) (x y : Joint) → cond b (Some x) None ≡ Some y → (b ≡ true) × (x ≡ y)
 kept_some true x y h = (refl, cc)
 kept_some false x y h = let bad : None ≡ Some y = h in absurd cc
@@ -114,9 +108,9 @@ module _ (q : PatternGraph) (t : QueryTree) (belongs : BelongsTo q t) (u : ℕ) 
 
       fit : list_any (λ e. e.below == v && reaches over l.parent e.above) (over.joints u) ≡ true → over.fits u v ≡ true
       fit any =
-          let e = found_in (λ e. e.below == v && reaches over l.parent e.above) (over.joints u) any in
-          let s = from_filter_map (joint_of q t g u) e.0 g.triples e.1 in
-          ap (fits q u g) (sym (eqb-true e.0.below v (and_parts _ _ e.2).0)) ∙ joint_fits s.0 e.0 s.1
+          let e = in_any (λ e. e.below == v && reaches over l.parent e.above) (over.joints u) any in
+          let s = filter_map_in (joint_of q t g u) g.triples e.0 e.1 in
+          ap (fits q u g) (sym (eqb-true e.0.below v (and_parts _ _ e.2).0)) ∙ joint_fits s.0 e.0 s.2
 
   pub in_count_link : (v : ℕ) → in_count over u v ≡ count_by (λ e. e.below == v && reaches over l.parent e.above) (over.joints u)
   in_count_link v = rw link refl
@@ -129,21 +123,21 @@ module _ (q : PatternGraph) (t : QueryTree) (belongs : BelongsTo q t) (u : ℕ) 
   in_count_few v =
       omega (arith, in_count_link v, count_by-le-length (λ (e : Joint). e.below == v && reaches over l.parent e.above) (over.joints u), length-filter_map (joint_of q t g u) g.triples)
 
-pub in_any_row : (vs : List ℕ) (v : ℕ) → list_any (nat_eq v) vs ≡ true → In v vs
-in_any_row vs v h = let f = found_in (nat_eq v) vs h in subst (λ z. In z vs) (sym (eqb-true v f.0 f.2)) f.1
+pub in_any_row : (vs : List ℕ) (v : ℕ) → list_any (nat_eq v) vs ≡ true → In vs v
+in_any_row vs v h = let f = in_any (nat_eq v) vs h in subst (λ z. In vs z) (sym (eqb-true v f.0 f.2)) f.1
 
-in_at : (vs : List ℕ) (i : ℕ) → i < length vs → In (slice_index vs i) vs
+in_at : (vs : List ℕ) (i : ℕ) → i < length vs → In vs (slice_index vs i)
 in_at [] i within = absurd (omega (arith, within))
 in_at (v ∷ vs) zero within = inl refl
 in_at (v ∷ vs) (suc i) within = inr (in_at vs i (omega (arith, within)))
 
 pub any_at : (vs : List ℕ) (i : ℕ) → i < length vs → list_any (nat_eq (slice_index vs i)) vs ≡ true
-any_at vs i within = list_any-in (nat_eq (slice_index vs i)) (slice_index vs i) vs (in_at vs i within) (eq-eqb (slice_index vs i) (slice_index vs i) refl)
+any_at vs i within = any_in (nat_eq (slice_index vs i)) vs (slice_index vs i) (in_at vs i within) (eq-eqb (slice_index vs i) (slice_index vs i) refl)
 
 pub vertex_of_fits : (q : PatternGraph) (u : ℕ) (g : Graph) (v : ℕ) → fits q u g v ≡ true → has_vertex g v ≡ true
 vertex_of_fits q u g v fit =
-    let w = found_in (λ (x : Vertex). x.id == v && is_within (slice_index_or q.labels u []) x.labels) g.vertices (and_parts _ _ fit).1 in
-    list_any-in (λ (x : Vertex). x.id == v) w.0 g.vertices w.1 (and_parts (w.0.id == v) (is_within (slice_index_or q.labels u []) w.0.labels) w.2).0
+    let w = in_any (λ (x : Vertex). x.id == v && is_within (slice_index_or q.labels u []) x.labels) g.vertices (and_parts _ _ fit).1 in
+    any_in (λ (x : Vertex). x.id == v) g.vertices w.0 w.1 (and_parts (w.0.id == v) (is_within (slice_index_or q.labels u []) w.0.labels) w.2).0
 
 -- ---- while the rows of a branch's child are made
 
@@ -189,14 +183,14 @@ module _ (q : PatternGraph) (t : QueryTree) (belongs : BelongsTo q t) (b : Branc
       by false r = refl
 
   -- the vertices that have a row with the parent are those that it reaches
-  pub in_rows : (vs : List ℕ) → ((v : ℕ) → list_any (nat_eq v) vs ≡ is_some (row_at old b.link.parent v)) → (v : ℕ) → reaches to_child b.link.parent v ≡ true → In v vs
+  pub in_rows : (vs : List ℕ) → ((v : ℕ) → list_any (nat_eq v) vs ≡ is_some (row_at old b.link.parent v)) → (v : ℕ) → reaches to_child b.link.parent v ≡ true → In vs v
   in_rows vs rows v h = in_any_row vs v (rows v ∙ (parent_reaches v ∙ h))
 
   -- and they are vertices of the graph
   pub row_stands : (v : ℕ) → is_some (row_at old b.link.parent v) ≡ true → has_vertex g v ≡ true
   row_stands v some = vertex_of_fits q b.link.parent g v (fits_of_reaches to_child (length t.links) b.link.parent v (sym (parent_reaches v) ∙ some))
 
-  module _ (limits : Limits) (held : IsWithinLimits limits g) (listed : List ℕ) (distinct : IsDistinct nat_eq listed) (inside : (v : ℕ) → reaches to_child b.link.parent v ≡ true → In v listed) where
+  module _ (limits : Limits) (held : IsWithinLimits limits g) (listed : List ℕ) (distinct : IsDistinct nat_eq listed) (inside : (v : ℕ) → reaches to_child b.link.parent v ≡ true → In listed v) where
     -- from all that the parent reaches as many joints lead in as there are
     from_listed : (w : ℕ) → sum_by (joins_from old b g w) listed ≡ in_count to_child b.child w
     from_listed w =

@@ -12,7 +12,7 @@ use Rattle.flux_model.specs.Graph.{Graph, IsGraph, ids, vertex_cmp}
 use Rattle.flux_model.specs.Ordered.{is_ascending}
 use Rattle.flux_model.specs.States.{Joint}
 use Rattle.flux_model.specs.declared.graph.Vertex.{Vertex}
-use Rattle.dcg_store.proofs.ListLemmas.{In}
+use Rattle.flux_model.specs.Members.{In}
 
 -- ---- sums
 
@@ -36,7 +36,7 @@ nowhere x n (v ∷ vs) h =
     let here : cond (x == v) n 0 ≡ 0 = ap (λ b. cond b n 0) h.0 in
     omega (arith, sum_by-cons (λ v. cond (x == v) n 0) v vs, here, nowhere x n vs h.1)
 
-pub once : (x n : ℕ) (vs : List ℕ) → IsDistinct nat_eq vs → In x vs → sum_by (λ v. cond (x == v) n 0) vs ≡ n
+pub once : (x n : ℕ) (vs : List ℕ) → IsDistinct nat_eq vs → In vs x → sum_by (λ v. cond (x == v) n 0) vs ≡ n
 unfolding IsDistinct
 once x n [] distinct m = absurd m
 once x n (v ∷ vs) distinct m =
@@ -50,13 +50,13 @@ once x n (v ∷ vs) distinct m =
           omega (arith, sum_by-cons (λ v. cond (x == v) n 0) v vs, here, once x n vs distinct.1 later)
     ]
   where
-    stands : (z : ℕ) (ws : List ℕ) → AllByRecursion (λ y. nat_eq z y ≡ false) ws → In z ws → ⊥
+    stands : (z : ℕ) (ws : List ℕ) → AllByRecursion (λ y. nat_eq z y ≡ false) ws → In ws z → ⊥
     stands z [] h m = m
     stands z (w ∷ ws) h m = elim m [ inl same ↦ (let bad : true ≡ false = sym (eq-eqb z w same) ∙ h.0 in absurd cc) | inr m ↦ stands z ws h.1 m ]
 
-    other : In x vs → (b : Bool) → (x == v) ≡ b → b ≡ false
+    other : In vs x → (b : Bool) → (x == v) ≡ b → b ≡ false
     other later false e = refl
-    other later true e = absurd (stands v vs distinct.0 (subst (λ z. In z vs) (eqb-true x v e) later))
+    other later true e = absurd (stands v vs distinct.0 (subst (λ z. In vs z) (eqb-true x v e) later))
 
 -- ---- the ids of a graph are distinct
 
@@ -87,7 +87,7 @@ distinct_ids g is = distinct_vertices g.vertices is.ascending_vertices
 
 -- ---- joints by their upper ends
 
-module _ (r : ℕ → Bool) (w : ℕ) (vs : List ℕ) (distinct : IsDistinct nat_eq vs) (all : (x : ℕ) → r x ≡ true → In x vs) where
+module _ (r : ℕ → Bool) (w : ℕ) (vs : List ℕ) (distinct : IsDistinct nat_eq vs) (all : (x : ℕ) → r x ≡ true → In vs x) where
   -- whether a joint leads from v to w
   abbrev leads : ℕ → Joint → Bool
   leads v e = e.above == v && e.below == w

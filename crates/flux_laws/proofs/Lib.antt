@@ -20,6 +20,7 @@ pub mod PatternsLemmas
 pub mod PlainLemmas
 pub mod ReadingLemmas
 pub mod ReportsLemmas
+pub mod SameMembersLemmas
 pub mod SetsLemmas
 pub mod TestLemmas
 pub mod TextsLemmas

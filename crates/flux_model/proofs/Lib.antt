@@ -10,3 +10,4 @@ pub mod VerdictRows
 pub mod GrownLemmas
 pub mod SortedLemmas
 pub mod PlaceLemmas
+pub mod MemberLemmas

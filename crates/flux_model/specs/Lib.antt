@@ -1,5 +1,6 @@
 pub mod Text
 pub mod Ordered
+pub mod Members
 pub mod Labels
 pub mod Limits
 pub mod Code

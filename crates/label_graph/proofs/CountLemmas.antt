@@ -17,10 +17,13 @@ use Rattle.flux_model.specs.declared.graph.Triple.{Triple}
 use Rattle.label_graph.specs.declared.link.Link.{Link}
 use Rattle.label_graph.specs.declared.names.Name.{Name}
 use Rattle.label_graph.specs.Names.{slot, text_at, IsTable, IsUnknown}
-use Rattle.label_graph.specs.Sorted.{In, sorted}
+use Rattle.flux_model.specs.Members.{In, AreOnce}
+use Rattle.flux_model.proofs.MemberLemmas.{in_any, any_in, in_mapped, mapped_in, append_in, in_append_left, in_append_right}
+use Rattle.flux_laws.proofs.SameMembersLemmas.{ascending_same, put_in, in_put}
+use Rattle.label_graph.specs.Sorted.{sorted}
 use Rattle.label_graph.specs.Store.{triple_of, kept_graph, IsNamed}
 use Rattle.label_graph.proofs.TableLemmas.{tell_text}
-use Rattle.label_graph.proofs.SortedLemmas.{ascending_same, sorted_ascending, sorted_in, in_sorted, put_in, in_put, in_any, any_in, in_mapped, mapped_in, length_sorted, IsApart}
+use Rattle.label_graph.proofs.SortedLemmas.{sorted_ascending, sorted_in, in_sorted, length_sorted}
 use Rattle.label_graph.proofs.StoreLemmas.{vertex_total, triple_total, self_equal, count_cons, count_in, known_label, known_slot, text_of_slot}
 use Rattle.graph_traits.proofs.NumberLemmas.{triple_exact, is_equal}
 
@@ -47,7 +50,7 @@ in_texts (None ∷ rest) (suc n) x e = in_texts rest n x e
 in_texts (Some y ∷ rest) zero x e = inl (ap (λ (z : Name). z.text) (sym (same_Some y x e)))
 in_texts (Some y ∷ rest) (suc n) x e = inr (in_texts rest n x e)
 
-pub apart_texts : (names : List (Option Name)) → ((m n : ℕ) (x y : Name) → slot names m ≡ Some x → slot names n ≡ Some y → x.text ≡ y.text → m ≡ n) → IsApart text_cmp nat_list_cmp_total (text_list names)
+pub apart_texts : (names : List (Option Name)) → ((m n : ℕ) (x y : Name) → slot names m ≡ Some x → slot names n ≡ Some y → x.text ≡ y.text → m ≡ n) → AreOnce (text_list names)
 apart_texts [] d = tt
 apart_texts (None ∷ rest) d = apart_texts rest (λ m n x y p q e. let s : suc m ≡ suc n = d (suc m) (suc n) x y p q e in omega arith)
 apart_texts (Some z ∷ rest) d = (
@@ -74,28 +77,14 @@ put_all_ascending set (n ∷ ns) a = put_all_ascending (put text_cmp n set) ns (
 
 -- ---- joined lists
 
-pub in_append : {X : Type 0} (xs ys : List X) (z : X) → In (xs ++ ys) z → In xs z ⊎ In ys z
-in_append [] ys z i = inr i
-in_append (x ∷ xs) ys z (inl e) = inl (inl e)
-in_append (x ∷ xs) ys z (inr i) = ⊎_elim (λ j. inl (inr j)) (λ j. inr j) (in_append xs ys z i)
-
-pub append_left : {X : Type 0} (xs ys : List X) (z : X) → In xs z → In (xs ++ ys) z
-append_left [] ys z i = absurd i
-append_left (x ∷ xs) ys z (inl e) = inl e
-append_left (x ∷ xs) ys z (inr i) = inr (append_left xs ys z i)
-
-pub append_right : {X : Type 0} (xs ys : List X) (z : X) → In ys z → In (xs ++ ys) z
-append_right [] ys z i = i
-append_right (x ∷ xs) ys z i = inr (append_right xs ys z i)
-
 in_labels : (vs : List Vertex) (t : List ℕ) → In (flat_map (λ (v : Vertex). v.labels) vs) t → (v : Vertex) × In vs v × In v.labels t
 in_labels [] t i = absurd i
-in_labels (v ∷ vs) t i = ⊎_elim (λ j. (v, inl refl, j)) (λ j. let r = in_labels vs t j in (r.0, inr r.1, r.2)) (in_append v.labels (flat_map (λ (v : Vertex). v.labels) vs) t i)
+in_labels (v ∷ vs) t i = ⊎_elim (λ j. (v, inl refl, j)) (λ j. let r = in_labels vs t j in (r.0, inr r.1, r.2)) (append_in v.labels (flat_map (λ (v : Vertex). v.labels) vs) t i)
 
 labels_in : (vs : List Vertex) (v : Vertex) (t : List ℕ) → In vs v → In v.labels t → In (flat_map (λ (v : Vertex). v.labels) vs) t
 labels_in [] v t i j = absurd i
-labels_in (w ∷ vs) v t (inl e) j = append_left w.labels (flat_map (λ (v : Vertex). v.labels) vs) t (let P : Vertex → Type 0 = λ z. In z.labels t in subst P e j)
-labels_in (w ∷ vs) v t (inr i) j = append_right w.labels (flat_map (λ (v : Vertex). v.labels) vs) t (labels_in vs v t i j)
+labels_in (w ∷ vs) v t (inl e) j = in_append_left w.labels (flat_map (λ (v : Vertex). v.labels) vs) t (let P : Vertex → Type 0 = λ z. In z.labels t in subst P e j)
+labels_in (w ∷ vs) v t (inr i) j = in_append_right w.labels (flat_map (λ (v : Vertex). v.labels) vs) t (labels_in vs v t i j)
 
 some_counted : {X : Type 0} (p : X → Bool) (xs : List X) → 0 < count_by p xs → (x : X) × In xs x × (p x ≡ true)
 some_counted p [] c = absurd (omega arith)
@@ -135,7 +124,7 @@ module _ (names : List (Option Name)) (vertices : List Vertex) (links : List Lin
       let l = mapped_in (triple_of names) links s.0 (sorted_in triple_cmp triple_total (map (triple_of names) links) s.0 s.1) in
       let e : unwrap_or (text_at names l.0.label) [] ≡ t = sym (s.2 ∙ ap (λ (z : Triple). z.label) l.2) in
       let P : List ℕ → Type 0 = λ z. In (text_list names) z in subst P e (from_link l.0 l.1))
-      (in_append (flat_map (λ (v : Vertex). v.labels) (sorted vertex_cmp vertices)) (map (λ (s : Triple). s.label) (sorted triple_cmp (map (triple_of names) links))) t i)
+      (append_in (flat_map (λ (v : Vertex). v.labels) (sorted vertex_cmp vertices)) (map (λ (s : Triple). s.label) (sorted triple_cmp (map (triple_of names) links))) t i)
 
   by_link : (n : ℕ) (x : Name) → slot names n ≡ Some x → 0 < count_by (λ (l : Link). l.label == n) links → In (names_of (kept_graph names vertices links)) x.text
   by_link n x e c =
@@ -143,7 +132,7 @@ module _ (names : List (Option Name)) (vertices : List Vertex) (links : List Lin
       let s : slot names l.0.label ≡ Some x = (let P : ℕ → Type 0 = λ m. slot names m ≡ Some x in subst P (sym (eqb-true l.0.label n l.2)) e) in
       let f : unwrap_or (text_at names l.0.label) [] ≡ x.text = ap (λ (o : Option (List ℕ)). unwrap_or o []) (text_of_slot names l.0.label x s) in
       let P : List ℕ → Type 0 = λ z. In (map (λ (s : Triple). s.label) (sorted triple_cmp (map (triple_of names) links))) z in
-      append_right (flat_map (λ (v : Vertex). v.labels) (sorted vertex_cmp vertices)) (map (λ (s : Triple). s.label) (sorted triple_cmp (map (triple_of names) links))) x.text
+      in_append_right (flat_map (λ (v : Vertex). v.labels) (sorted vertex_cmp vertices)) (map (λ (s : Triple). s.label) (sorted triple_cmp (map (triple_of names) links))) x.text
       (subst P f (in_mapped (λ (s : Triple). s.label) (sorted triple_cmp (map (triple_of names) links)) (triple_of names l.0)
       (in_sorted triple_cmp triple_total (map (triple_of names) links) (λ a b i j q. triple_exact a b q) (triple_of names l.0) (in_mapped (triple_of names) links l.0 l.1))))
 
@@ -153,7 +142,7 @@ module _ (names : List (Option Name)) (vertices : List Vertex) (links : List Lin
       let y = in_any (λ z. is_eq (text_cmp t z)) v.0.labels v.2 in
       let e : t ≡ y.0 = exact_bytes t y.0 (is_equal (text_cmp t y.0) y.2) in
       let P : List ℕ → Type 0 = λ z. In v.0.labels z in
-      append_left (flat_map (λ (v : Vertex). v.labels) (sorted vertex_cmp vertices)) (map (λ (s : Triple). s.label) (sorted triple_cmp (map (triple_of names) links))) t
+      in_append_left (flat_map (λ (v : Vertex). v.labels) (sorted vertex_cmp vertices)) (map (λ (s : Triple). s.label) (sorted triple_cmp (map (triple_of names) links))) t
       (labels_in (sorted vertex_cmp vertices) v.0 t (in_sorted vertex_cmp vertex_total vertices (λ a b i j q. h.one_each a b i j (exact_unsigned a.id b.id q)) v.0 v.1) (subst P (sym e) y.1))
 
   pub known_named : (t : List ℕ) → In (text_list names) t → In (names_of (kept_graph names vertices links)) t
@@ -169,10 +158,10 @@ module _ (names : List (Option Name)) (vertices : List Vertex) (links : List Lin
   set_is text list to from = ascending_same text_cmp nat_list_cmp_total (label_set (names_of (kept_graph names vertices links) ++ text ∷ [])) (sorted text_cmp list)
       (put_all_ascending [] (names_of (kept_graph names vertices links) ++ text ∷ []) refl) (sorted_ascending text_cmp nat_list_cmp_total list)
       (λ z i. in_sorted text_cmp nat_list_cmp_total list (λ a b p q e. exact_bytes a b e) z
-      (from z (⊎_elim (λ j. absurd j) (λ j. ⊎_elim (λ k. inl (names_known z k)) (λ k. ⊎_elim (λ e. inr e) (λ n. absurd n) k) (in_append (names_of (kept_graph names vertices links)) (text ∷ []) z j))
+      (from z (⊎_elim (λ j. absurd j) (λ j. ⊎_elim (λ k. inl (names_known z k)) (λ k. ⊎_elim (λ e. inr e) (λ n. absurd n) k) (append_in (names_of (kept_graph names vertices links)) (text ∷ []) z j))
       (in_put_all [] (names_of (kept_graph names vertices links) ++ text ∷ []) z i))))
       (λ z i. put_all_in [] (names_of (kept_graph names vertices links) ++ text ∷ []) z
-      (inr (⊎_elim (λ k. append_left (names_of (kept_graph names vertices links)) (text ∷ []) z (known_named z k)) (λ e. append_right (names_of (kept_graph names vertices links)) (text ∷ []) z (inl e))
+      (inr (⊎_elim (λ k. in_append_left (names_of (kept_graph names vertices links)) (text ∷ []) z (known_named z k)) (λ e. in_append_right (names_of (kept_graph names vertices links)) (text ∷ []) z (inl e))
       (to z (sorted_in text_cmp nat_list_cmp_total list z i)))))
 
   pub names_counted : (text : List ℕ) (known : Option ℕ) → MatchOption known (IsUnknown names text) (λ n. text_at names n ≡ Some text) → name_count (kept_graph names vertices links) (text ∷ []) ≡ count_by is_some names + (if is_some known then 0 else 1)

@@ -5,6 +5,8 @@ use Rattle.std.specs.List.{list_any, AllByRecursion, IsDistinct}
 use Rattle.std.specs.Map.{lookup, keys_of}
 use Rattle.std.proofs.lemmas.Map.Made.{is_some-lookup}
 use Rattle.std.proofs.lemmas.List.{length-map}
+use Rattle.flux_model.specs.Members.{In, AreOnce}
+use Rattle.flux_model.proofs.MemberLemmas.{in_any, mapped_in}
 use Rattle.label_graph.proofs.CountLemmas.{names_counted}
 use Rattle.flux_model.specs.Graph.{Graph, triple_cmp, name_count, add_edge, has_both_ends, has_triple, with_triple}
 use Rattle.flux_model.specs.declared.limits.Limits.{Limits}
@@ -16,11 +18,11 @@ use Rattle.label_graph.specs.declared.link.Places.{Places}
 use Rattle.label_graph.specs.declared.names.Name.{Name}
 use Rattle.label_graph.specs.Names.{slot, text_at, IsTable, IsUnknown}
 use Rattle.label_graph.specs.Places.{link_eq}
-use Rattle.label_graph.specs.Sorted.{In, sorted}
+use Rattle.label_graph.specs.Sorted.{sorted}
 use Rattle.label_graph.specs.Store.{triple_of, kept_graph, IsNamed}
 use Rattle.label_graph.specs.Known.{known_stands}
 use Rattle.label_graph.proofs.PlaceLemmas.{link_same, link_refl}
-use Rattle.label_graph.proofs.SortedLemmas.{in_any, mapped_in, length_sorted, IsApart}
+use Rattle.label_graph.proofs.SortedLemmas.{length_sorted}
 use Rattle.label_graph.proofs.StoreLemmas.{known_label, has_triple_found, has_triple_unknown, triple_tells, triple_total}
 use Rattle.graph_traits.proofs.NumberLemmas.{triple_exact}
 
@@ -99,7 +101,7 @@ pub triple_count : (names : List (Option Name)) (vertices : List Vertex) (links 
 triple_count names vertices links h tab apart =
     length_sorted triple_cmp triple_total triple_exact (map (triple_of names) links) (each links (λ l i. i) apart) ∙ length-map links (triple_of names)
   where
-    each : (ls : List Link) → ((l : Link) → In ls l → In links l) → IsDistinct link_eq ls → IsApart triple_cmp triple_total (map (triple_of names) ls)
+    each : (ls : List Link) → ((l : Link) → In ls l → In links l) → IsDistinct link_eq ls → AreOnce (map (triple_of names) ls)
     each [] f d = tt
     each (l ∷ ls) f d = (
       λ i.

@@ -13,10 +13,12 @@ use Rattle.label_graph.specs.declared.names.Name.{Name}
 use Rattle.label_graph.specs.Names.{text_at, IsTable, IsUnknown}
 use Rattle.graph_traits.specs.Numbers.{LacksLabel, has_triple_by}
 use Rattle.label_graph.specs.Places.{link_eq}
-use Rattle.label_graph.specs.Sorted.{In, sorted}
+use Rattle.flux_model.specs.Members.{In}
+use Rattle.flux_model.proofs.MemberLemmas.{in_any, mapped_in}
+use Rattle.label_graph.specs.Sorted.{sorted}
 use Rattle.label_graph.specs.Store.{triple_of, kept_graph, IsNamed}
 use Rattle.label_graph.proofs.PlaceLemmas.{link_same}
-use Rattle.label_graph.proofs.SortedLemmas.{in_any, mapped_in, sorted_in}
+use Rattle.label_graph.proofs.SortedLemmas.{sorted_in}
 use Rattle.label_graph.proofs.StoreLemmas.{triple_total, known_label, text_of_slot, has_triple_found}
 
 none_pass : {X : Type 0} (p : X → Bool) (xs : List X) → ((x : X) → In xs x → p x ≡ false) → filter p xs ≡ []

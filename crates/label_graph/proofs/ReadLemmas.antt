@@ -23,11 +23,13 @@ use Rattle.label_graph.specs.declared.link.Node.{Node}
 use Rattle.label_graph.specs.declared.names.Name.{Name}
 use Rattle.label_graph.specs.Places.{vertex_of}
 use Rattle.graph_traits.specs.Rows.{vertex_at}
-use Rattle.label_graph.specs.Sorted.{In, sorted}
+use Rattle.flux_model.specs.Members.{In, AreOnce}
+use Rattle.flux_model.proofs.MemberLemmas.{in_any, any_in, mapped_in, in_mapped, once_permutation}
+use Rattle.flux_laws.proofs.SameMembersLemmas.{ascending_once}
+use Rattle.label_graph.specs.Sorted.{sorted}
 use Rattle.label_graph.specs.Store.{kept_graph, IsNamed}
-use Rattle.label_graph.proofs.SortedLemmas.{in_any, any_in, mapped_in, in_mapped, in_sorted, sorted_in, sorted_ascending, ascending_apart}
+use Rattle.label_graph.proofs.SortedLemmas.{in_sorted, sorted_in, sorted_ascending}
 use Rattle.label_graph.proofs.StoreLemmas.{vertex_total}
-use Rattle.label_graph.proofs.RowLemmas.{AreOnce, once_permutation, once_apart}
 
 -- ---- the one element that passes a test
 
@@ -113,9 +115,8 @@ module _ (names : List (Option Name)) (nodes : List (ℕ × Node)) (links : List
   pub ids_listed : IsPermutation (keys_of nodes) (ids (kept_graph names (map vertex_of nodes) links))
   ids_listed = once_permutation (keys_of nodes) (map (λ (v : Vertex). v.id) (sorted vertex_cmp (map vertex_of nodes)))
       (keys_once (keys_of nodes) distinct)
-      (once_apart nat_cmp nat_cmp_total (map (λ (v : Vertex). v.id) (sorted vertex_cmp (map vertex_of nodes)))
-      (ascending_apart nat_cmp nat_cmp_total (map (λ (v : Vertex). v.id) (sorted vertex_cmp (map vertex_of nodes)))
-      (ids_ascending (sorted vertex_cmp (map vertex_of nodes)) (sorted_ascending vertex_cmp vertex_total (map vertex_of nodes)))))
+      (ascending_once nat_cmp nat_cmp_total (map (λ (v : Vertex). v.id) (sorted vertex_cmp (map vertex_of nodes)))
+      (ids_ascending (sorted vertex_cmp (map vertex_of nodes)) (sorted_ascending vertex_cmp vertex_total (map vertex_of nodes))))
       (λ k i.
       let v = key_vertex nodes k i in
       let P : ℕ → Type 0 = λ m. In (map (λ (v : Vertex). v.id) (sorted vertex_cmp (map vertex_of nodes))) m in

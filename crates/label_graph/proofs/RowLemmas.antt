@@ -1,16 +1,14 @@
 -- A row gives each triple of its vertex once.
-use Rattle.std.proofs.Common.{◌≡◌, ℕ, zero, suc, ◌<◌, true, Option, Some, None, List, [], ◌∷◌, ◌++◌, map, length, refl, sym, ap, ◌∙◌, subst, ⊎_elim, ◌⊎◌, inl, inr, arith, get_or}
+use Rattle.std.proofs.Common.{◌≡◌, ℕ, ◌<◌, true, Option, Some, None, List, map, length, refl, sym, ap, ◌∙◌, subst, get_or}
 use Rattle.std.specs.Prelude.{◌==◌, IsPermutation, IsSome, IsTrue, count_by, slice_get, option_map, nat_eq, is_some}
 use Rattle.std.specs.List.{filter, list_any}
 use Rattle.std.specs.Map.{lookup, keys_of}
-use Rattle.std.specs.declared.cmp.Ordering.{Ordering}
-use Rattle.std.specs.Cmp.{IsTotalOrder}
 use Rattle.std.proofs.lemmas.Bool.{eqb-true, eq-eqb}
-use Rattle.std.proofs.lemmas.Option.{none-some, same_Some, some_pair_parts, slice_get_read, slice_get_within}
+use Rattle.std.proofs.lemmas.Option.{some_pair_parts, slice_get_read, slice_get_within}
 use Rattle.std.proofs.lemmas.Map.Made.{is_some-lookup}
 use Rattle.std.proofs.lemmas.List.{length-map}
 use Rattle.std.proofs.lemmas.List.Sums.{length-filter}
-use Rattle.std.proofs.lemmas.List.Sorted.{IsPermutation-refl, IsPermutation-trans, IsPermutation-cons, IsPermutation-middle, IsPermutation-sym, length_permutation}
+use Rattle.std.proofs.lemmas.List.Sorted.{length_permutation}
 use Rattle.flux_model.specs.Graph.{triple_cmp, has_vertex}
 use Rattle.flux_model.specs.declared.graph.Triple.{Triple}
 use Rattle.flux_model.specs.declared.graph.Vertex.{Vertex}
@@ -22,90 +20,17 @@ use Rattle.label_graph.specs.declared.names.Name.{Name}
 use Rattle.label_graph.specs.Names.{slot, IsTable}
 use Rattle.label_graph.specs.Places.{AreInverse, ArePlaced, link_at, vertex_of, outs, outs_of, ins, ins_of, out_link, in_link, link_eq}
 use Rattle.graph_traits.specs.Rows.{triples_from, triples_to}
-use Rattle.label_graph.specs.Sorted.{In, sorted}
+use Rattle.flux_model.specs.Members.{In, AreOnce}
+use Rattle.flux_model.proofs.MemberLemmas.{in_any, any_in, mapped_in, in_mapped, in_filter, filter_in, once_permutation, once_by_place, in_by_place, once_mapped, place_of}
+use Rattle.flux_laws.proofs.AscendingLemmas.{filter-ascending}
+use Rattle.flux_laws.proofs.SameMembersLemmas.{ascending_once}
+use Rattle.label_graph.specs.Sorted.{sorted}
 use Rattle.label_graph.specs.Store.{triple_of, kept_graph, row_from, IsNamed}
-use Rattle.label_graph.proofs.CountLemmas.{in_append, append_left, append_right}
 use Rattle.label_graph.proofs.NodeLemmas.{stands_out, stands_in}
 use Rattle.label_graph.proofs.PlaceLemmas.{link_same, link_refl, IsSome-mapped, option_map_some}
-use Rattle.label_graph.proofs.SortedLemmas.{in_any, any_in, mapped_in, in_mapped, in_filter, filter_in, in_sorted, sorted_in, sorted_ascending, filter_ascending, ascending_apart, IsApart}
+use Rattle.label_graph.proofs.SortedLemmas.{in_sorted, sorted_in, sorted_ascending}
 use Rattle.label_graph.proofs.StoreLemmas.{triple_total, triple_tells, known_label, has_vertex_of}
 use Rattle.graph_traits.proofs.NumberLemmas.{triple_exact}
-
--- ---- lists without repeats
-
--- no element is there twice
-abbrev pub AreOnce : {X : Type 0} → List X → Type 0
-AreOnce [] = Unit {0}
-AreOnce (x ∷ xs) = (In xs x → ⊥) × AreOnce xs
-
--- a list with an element, about that element
-split_at : {X : Type 0} (x : X) (ys : List X) → In ys x → (front : List X) × (tail : List X) × (ys ≡ front ++ x ∷ tail)
-split_at x [] i = absurd i
-split_at {X} x (y ∷ ys) (inl e) = ([], ys, (let P : X → Type 0 = λ z. y ∷ ys ≡ z ∷ ys in subst P (sym e) refl))
-split_at x (y ∷ ys) (inr i) = let r = split_at x ys i in (y ∷ r.0, r.1, ap (λ l. y ∷ l) r.2)
-
-middle_in : {X : Type 0} (front : List X) (x : X) (tail : List X) (z : X) → In (front ++ x ∷ tail) z → (z ≡ x) ⊎ In (front ++ tail) z
-middle_in front x tail z i = ⊎_elim (λ j. inr (append_left front tail z j)) (λ j. ⊎_elim (λ e. inl e) (λ k. inr (append_right front tail z k)) j) (in_append front (x ∷ tail) z i)
-
-in_middle : {X : Type 0} (front : List X) (x : X) (tail : List X) (z : X) → In (front ++ tail) z → In (front ++ x ∷ tail) z
-in_middle front x tail z i = ⊎_elim (λ j. append_left front (x ∷ tail) z j) (λ j. append_right front (x ∷ tail) z (inr j)) (in_append front tail z i)
-
-once_middle : {X : Type 0} (front : List X) (x : X) (tail : List X) → AreOnce (front ++ x ∷ tail) → (In (front ++ tail) x → ⊥) × AreOnce (front ++ tail)
-once_middle [] x tail h = h
-once_middle {X} (a ∷ front) x tail h =
-    let r = once_middle front x tail h.1 in
-    (λ i. ⊎_elim (λ e. h.0 (let P : X → Type 0 = λ z. In (front ++ x ∷ tail) z in subst P e (append_right front (x ∷ tail) x (inl refl)))) r.0 i, (λ i. h.0 (in_middle front x tail a i), r.1))
-
--- lists with the same elements, each once
-pub once_permutation : {X : Type 0} (xs ys : List X) → AreOnce xs → AreOnce ys → ((z : X) → In xs z → In ys z) → ((z : X) → In ys z → In xs z) → IsPermutation xs ys
-once_permutation [] [] a b f g = IsPermutation-refl []
-once_permutation [] (y ∷ ys) a b f g = absurd (g y (inl refl))
-once_permutation {X} (x ∷ xs) ys a b f g =
-    let s = split_at x ys (f x (inl refl)) in
-    let P : List X → Type 0 = AreOnce in
-    let once = once_middle s.0 x s.1 (subst P s.2 b) in
-    let to : (z : X) → In xs z → In (s.0 ++ s.1) z = λ z i.
-    (let Q : List X → Type 0 = λ l. In l z in
-    let R : X → Type 0 = λ w. In xs w in
-    ⊎_elim (λ e. absurd (a.0 (subst R e i))) (λ j. j) (middle_in s.0 x s.1 z (subst Q s.2 (f z (inr i))))) in
-    let from : (z : X) → In (s.0 ++ s.1) z → In xs z = λ z i.
-    (let Q : List X → Type 0 = λ l. In l z in
-    let R : X → Type 0 = λ w. In (s.0 ++ s.1) w in
-    ⊎_elim (λ e. absurd (once.0 (subst R e i))) (λ j. j) (g z (subst Q (sym s.2) (in_middle s.0 x s.1 z i)))) in
-    let rest = once_permutation xs (s.0 ++ s.1) a.1 once.1 to from in
-    let whole = IsPermutation-trans (x ∷ xs) (x ∷ (s.0 ++ s.1)) (s.0 ++ x ∷ s.1) (IsPermutation-cons x xs (s.0 ++ s.1) rest)
-    (IsPermutation-sym (s.0 ++ x ∷ s.1) (x ∷ (s.0 ++ s.1)) (IsPermutation-middle s.0 x s.1)) in
-    let S : List X → Type 0 = λ l. IsPermutation (x ∷ xs) l in
-    subst S (sym s.2) whole
-
-pub place_of : {X : Type 0} (xs : List X) (x : X) → In xs x → (i : ℕ) × (slice_get xs i ≡ Some x)
-place_of [] x i = absurd i
-place_of (y ∷ ys) x (inl e) = (zero, ap Some (sym e))
-place_of (y ∷ ys) x (inr i) = let r = place_of ys x i in (suc r.0, r.1)
-
--- a list whose elements tell their places
-pub once_by_place : {X : Type 0} (xs : List X) → ((i j : ℕ) (x : X) → slice_get xs i ≡ Some x → slice_get xs j ≡ Some x → i ≡ j) → AreOnce xs
-once_by_place [] h = tt
-once_by_place {X} (x ∷ xs) h = (
-  λ i. let p = place_of xs x i in let e : zero ≡ suc p.0 = h zero (suc p.0) x refl p.1 in absurd (omega arith),
-  once_by_place xs (λ i j y p q. let e : suc i ≡ suc j = h (suc i) (suc j) y p q in omega arith),
-)
-
-pub in_by_place : {X : Type 0} (xs : List X) (i : ℕ) (x : X) → slice_get xs i ≡ Some x → In xs x
-in_by_place [] i x e = absurd (none-some x e)
-in_by_place (y ∷ ys) zero x e = inl (sym (same_Some y x e))
-in_by_place (y ∷ ys) (suc i) x e = inr (in_by_place ys i x e)
-
-pub once_mapped : {X Y : Type 0} (f : X → Y) (xs : List X) → AreOnce xs → ((a b : X) → In xs a → In xs b → f a ≡ f b → a ≡ b) → AreOnce (map f xs)
-once_mapped f [] o h = tt
-once_mapped {X} f (x ∷ xs) o h = (
-  λ i. let r = mapped_in f xs (f x) i in let e : x ≡ r.0 = h x r.0 (inl refl) (inr r.1) r.2 in o.0 (let P : X → Type 0 = λ z. In xs z in subst P (sym e) r.1),
-  once_mapped f xs o.1 (λ a b i j e. h a b (inr i) (inr j) e),
-)
-
-pub once_apart : {X : Type 0} (R : X → X → Ordering) (o : IsTotalOrder R) (xs : List X) → IsApart R o xs → AreOnce xs
-once_apart R o [] a = tt
-once_apart R o (x ∷ xs) a = (a.0, once_apart R o xs a.1)
 
 -- ---- a side of the rows
 
@@ -203,10 +128,9 @@ module _ (link : ℕ → Turn → Link) (owner : Link → ℕ) (owner_of : Tripl
     row_is : IsTable names → (v : ℕ) → IsPermutation (map (λ t. triple_of names (link v t)) (rows v)) (filter (λ s. owner_of s == v) (sorted triple_cmp (map (triple_of names) (keys_of places))))
     row_is tab v = once_permutation (map (λ t. triple_of names (link v t)) (rows v)) (filter (λ s. owner_of s == v) (sorted triple_cmp (map (triple_of names) (keys_of places))))
         (once_mapped (λ t. triple_of names (link v t)) (rows v) (turns_once v) (turns_tell tab v))
-        (once_apart triple_cmp triple_total (filter (λ s. owner_of s == v) (sorted triple_cmp (map (triple_of names) (keys_of places))))
-        (ascending_apart triple_cmp triple_total (filter (λ s. owner_of s == v) (sorted triple_cmp (map (triple_of names) (keys_of places))))
-        (filter_ascending triple_cmp triple_total (λ s. owner_of s == v) (sorted triple_cmp (map (triple_of names) (keys_of places)))
-        (sorted_ascending triple_cmp triple_total (map (triple_of names) (keys_of places))))))
+        (ascending_once triple_cmp triple_total (filter (λ s. owner_of s == v) (sorted triple_cmp (map (triple_of names) (keys_of places))))
+        (filter-ascending triple_cmp triple_total (λ s. owner_of s == v) (sorted triple_cmp (map (triple_of names) (keys_of places)))
+        (sorted_ascending triple_cmp triple_total (map (triple_of names) (keys_of places)))))
         (from_row v) (to_row v)
 
     row_length : IsTable names → (v : ℕ) → length (rows v) ≡ count_by (λ s. owner_of s == v) (sorted triple_cmp (map (triple_of names) (keys_of places)))

@@ -13,8 +13,10 @@ use Rattle.flux_model.specs.Ordered.{is_in, is_ascending}
 use Rattle.label_graph.specs.declared.names.Name.{Name}
 use Rattle.label_graph.specs.Names.{slot, text_at, uses_of, lowered, IsUnknown, IsTable}
 use Rattle.label_graph.specs.SetNames.{is_known, raised_in, lowered_in, IsRaised}
-use Rattle.label_graph.specs.Sorted.{In}
-use Rattle.label_graph.proofs.SortedLemmas.{in_any, ascending_apart, tail_ascending}
+use Rattle.flux_model.specs.Members.{In}
+use Rattle.flux_model.proofs.MemberLemmas.{in_any}
+use Rattle.flux_laws.proofs.AscendingLemmas.{tail_ascending}
+use Rattle.flux_laws.proofs.SameMembersLemmas.{ascending_once}
 use Rattle.label_graph.proofs.StoreLemmas.{self_equal, known_slot, text_of_slot}
 use Rattle.graph_traits.proofs.NumberLemmas.{is_equal}
 use Rattle.label_graph.proofs.TableLemmas.{same_name}
@@ -48,7 +50,7 @@ pub not_later : (t : List ℕ) (rest : List (List ℕ)) → is_ascending text_cm
 not_later t rest a = by (is_in text_cmp t rest) refl
   where
     by : (b : Bool) → is_in text_cmp t rest ≡ b → is_in text_cmp t rest ≡ false
-    by true e = absurd ((ascending_apart text_cmp nat_list_cmp_total (t ∷ rest) a).0 (in_set t rest e))
+    by true e = absurd ((ascending_once text_cmp nat_list_cmp_total (t ∷ rest) a).0 (in_set t rest e))
     by false e = e
 
 -- what is left of a set at a place

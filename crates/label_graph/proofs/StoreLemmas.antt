@@ -29,11 +29,15 @@ use Rattle.label_graph.specs.declared.link.Places.{Places}
 use Rattle.label_graph.specs.declared.names.Name.{Name}
 use Rattle.label_graph.specs.Names.{slot, text_at, IsTable, IsUnknown, lowered, uses_of}
 use Rattle.label_graph.specs.Places.{ArePlaced, link_eq, vertex_of, outs, out_link}
-use Rattle.label_graph.specs.Sorted.{In, sorted}
+use Rattle.flux_model.specs.Members.{In}
+use Rattle.flux_model.proofs.MemberLemmas.{filter_in, in_filter, mapped_in, in_mapped, in_permutation, in_permutation_back, none_in, in_any}
+use Rattle.flux_laws.proofs.AscendingLemmas.{filter-ascending}
+use Rattle.flux_laws.proofs.SameMembersLemmas.{ascending_same}
+use Rattle.label_graph.specs.Sorted.{sorted}
 use Rattle.label_graph.specs.Store.{triple_of, kept_graph, use_count, IsNamed}
 use Rattle.label_graph.proofs.TableLemmas.{tell_text, same_name}
 use Rattle.label_graph.proofs.PlaceLemmas.{link_same, link_refl, option_map_some, IsSome-mapped}
-use Rattle.label_graph.proofs.SortedLemmas.{ascending_same, sorted_ascending, sorted_in, in_sorted, filter_ascending, filter_in, in_filter, mapped_in, in_mapped, in_permutation, in_permutation_back, none_in, in_any, any_sorted, sorted_same, IsExactOn}
+use Rattle.label_graph.proofs.SortedLemmas.{sorted_ascending, sorted_in, in_sorted, any_sorted, sorted_same, IsExactOn}
 
 -- ---- the orders
 
@@ -276,7 +280,7 @@ module _ (names names' : List (Option Name)) (vertices : List Vertex) (links lin
   triples_without =
       let test : Triple → Bool = λ s. not (is_eq (triple_cmp s (triple_of names k))) in
       ascending_same triple_cmp triple_total (filter (λ s. not (is_eq (triple_cmp s (triple_of names k)))) (sorted triple_cmp (map (triple_of names) links))) (sorted triple_cmp (map (triple_of names) links'))
-      (filter_ascending triple_cmp triple_total (λ s. not (is_eq (triple_cmp s (triple_of names k)))) (sorted triple_cmp (map (triple_of names) links)) (sorted_ascending triple_cmp triple_total (map (triple_of names) links)))
+      (filter-ascending triple_cmp triple_total (λ s. not (is_eq (triple_cmp s (triple_of names k)))) (sorted triple_cmp (map (triple_of names) links)) (sorted_ascending triple_cmp triple_total (map (triple_of names) links)))
       (sorted_ascending triple_cmp triple_total (map (triple_of names) links'))
       (λ z i.
       let f = filter_in (λ s. not (is_eq (triple_cmp s (triple_of names k)))) (sorted triple_cmp (map (triple_of names) links)) z i in

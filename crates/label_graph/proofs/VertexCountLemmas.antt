@@ -25,11 +25,15 @@ use Rattle.label_graph.specs.declared.names.Name.{Name}
 use Rattle.label_graph.specs.Names.{IsTable}
 use Rattle.label_graph.specs.Places.{vertex_of}
 use Rattle.label_graph.specs.SetNames.{is_known}
-use Rattle.label_graph.specs.Sorted.{In, sorted}
+use Rattle.flux_model.specs.Members.{In, AreOnce}
+use Rattle.flux_model.proofs.MemberLemmas.{append_in, in_append_left, in_append_right, filter_in, in_filter}
+use Rattle.flux_laws.proofs.AscendingLemmas.{filter-ascending}
+use Rattle.flux_laws.proofs.SameMembersLemmas.{ascending_same, ascending_once}
+use Rattle.label_graph.specs.Sorted.{sorted}
 use Rattle.label_graph.specs.Store.{kept_graph, IsNamed}
-use Rattle.label_graph.proofs.CountLemmas.{text_list, length_texts, texts_in, in_texts, apart_texts, in_put_all, put_all_in, put_all_ascending, in_append, append_left, append_right, names_known, known_named}
+use Rattle.label_graph.proofs.CountLemmas.{text_list, length_texts, texts_in, in_texts, apart_texts, in_put_all, put_all_in, put_all_ascending, names_known, known_named}
 use Rattle.label_graph.proofs.SetNameLemmas.{known_at, known_some}
-use Rattle.label_graph.proofs.SortedLemmas.{ascending_same, sorted_ascending, sorted_in, in_sorted, filter_ascending, filter_in, in_filter, length_sorted, ascending_apart, IsApart}
+use Rattle.label_graph.proofs.SortedLemmas.{sorted_ascending, sorted_in, in_sorted, length_sorted}
 use Rattle.label_graph.proofs.StoreLemmas.{known_slot, text_of_slot}
 
 -- ---- vertices
@@ -52,7 +56,7 @@ ids_of_nodes : (es : List (ℕ × Node)) → map (λ (w : Vertex). w.id) (map ve
 ids_of_nodes [] = refl
 ids_of_nodes (e ∷ es) = ap (λ (l : List ℕ). e.0 ∷ l) (ids_of_nodes es)
 
-apart_ids : (ks : List ℕ) → IsDistinct nat_eq ks → IsApart nat_cmp nat_cmp_total ks
+apart_ids : (ks : List ℕ) → IsDistinct nat_eq ks → AreOnce ks
 unfolding IsDistinct
 apart_ids [] d = tt
 apart_ids (k ∷ ks) d = ((λ i. head ks d.0 i), apart_ids ks d.1)
@@ -70,9 +74,9 @@ vertices_counted es d =
 
 -- ---- names
 
-apart_joined : (xs ys : List (List ℕ)) → IsApart text_cmp nat_list_cmp_total xs → IsApart text_cmp nat_list_cmp_total ys → ((z : List ℕ) → In xs z → In ys z → ⊥) → IsApart text_cmp nat_list_cmp_total (xs ++ ys)
+apart_joined : (xs ys : List (List ℕ)) → AreOnce xs → AreOnce ys → ((z : List ℕ) → In xs z → In ys z → ⊥) → AreOnce (xs ++ ys)
 apart_joined [] ys a b n = b
-apart_joined (x ∷ xs) ys a b n = ((λ i. ⊎_elim a.0 (λ j. n x (inl refl) j) (in_append xs ys x i)), apart_joined xs ys a.1 b (λ z i j. n z (inr i) j))
+apart_joined (x ∷ xs) ys a b n = ((λ i. ⊎_elim a.0 (λ j. n x (inl refl) j) (append_in xs ys x i)), apart_joined xs ys a.1 b (λ z i j. n z (inr i) j))
 
 module _ (names : List (Option Name)) (vertices : List Vertex) (links : List Link) (h : IsNamed names vertices links) (tab : IsTable names) (set : List (List ℕ)) (up : is_ascending text_cmp set ≡ true) where
   listed_known : (t : List ℕ) → is_known names t ≡ true → In (text_list names) t
@@ -87,19 +91,19 @@ module _ (names : List (Option Name)) (vertices : List Vertex) (links : List Lin
 
   in_use : (z : List ℕ) → In (names_of (kept_graph names vertices links) ++ set) z → In (filter (λ (t : List ℕ). not (is_known names t)) set ++ text_list names) z
   in_use z i = ⊎_elim
-      (λ j. append_right (filter (λ (t : List ℕ). not (is_known names t)) set) (text_list names) z (names_known names vertices links h tab z j))
+      (λ j. in_append_right (filter (λ (t : List ℕ). not (is_known names t)) set) (text_list names) z (names_known names vertices links h tab z j))
       (λ j. by (is_known names z) refl j)
-      (in_append (names_of (kept_graph names vertices links)) set z i)
+      (append_in (names_of (kept_graph names vertices links)) set z i)
     where
       by : (b : Bool) → is_known names z ≡ b → In set z → In (filter (λ (t : List ℕ). not (is_known names t)) set ++ text_list names) z
-      by true e j = append_right (filter (λ (t : List ℕ). not (is_known names t)) set) (text_list names) z (listed_known z e)
-      by false e j = append_left (filter (λ (t : List ℕ). not (is_known names t)) set) (text_list names) z (in_filter (λ (t : List ℕ). not (is_known names t)) set z j (ap not e))
+      by true e j = in_append_right (filter (λ (t : List ℕ). not (is_known names t)) set) (text_list names) z (listed_known z e)
+      by false e j = in_append_left (filter (λ (t : List ℕ). not (is_known names t)) set) (text_list names) z (in_filter (λ (t : List ℕ). not (is_known names t)) set z j (ap not e))
 
   use_in : (z : List ℕ) → In (filter (λ (t : List ℕ). not (is_known names t)) set ++ text_list names) z → In (names_of (kept_graph names vertices links) ++ set) z
   use_in z i = ⊎_elim
-      (λ j. append_right (names_of (kept_graph names vertices links)) set z (filter_in (λ (t : List ℕ). not (is_known names t)) set z j).0)
-      (λ j. append_left (names_of (kept_graph names vertices links)) set z (known_named names vertices links h tab z j))
-      (in_append (filter (λ (t : List ℕ). not (is_known names t)) set) (text_list names) z i)
+      (λ j. in_append_right (names_of (kept_graph names vertices links)) set z (filter_in (λ (t : List ℕ). not (is_known names t)) set z j).0)
+      (λ j. in_append_left (names_of (kept_graph names vertices links)) set z (known_named names vertices links h tab z j))
+      (append_in (filter (λ (t : List ℕ). not (is_known names t)) set) (text_list names) z i)
 
   label_set_is : label_set (names_of (kept_graph names vertices links) ++ set) ≡ sorted text_cmp (filter (λ (t : List ℕ). not (is_known names t)) set ++ text_list names)
   label_set_is = ascending_same text_cmp nat_list_cmp_total (label_set (names_of (kept_graph names vertices links) ++ set)) (sorted text_cmp (filter (λ (t : List ℕ). not (is_known names t)) set ++ text_list names))
@@ -110,9 +114,9 @@ module _ (names : List (Option Name)) (vertices : List Vertex) (links : List Lin
       (λ z i. put_all_in [] (names_of (kept_graph names vertices links) ++ set) z
       (inr (use_in z (sorted_in text_cmp nat_list_cmp_total (filter (λ (t : List ℕ). not (is_known names t)) set ++ text_list names) z i))))
 
-  apart_all : IsApart text_cmp nat_list_cmp_total (filter (λ (t : List ℕ). not (is_known names t)) set ++ text_list names)
+  apart_all : AreOnce (filter (λ (t : List ℕ). not (is_known names t)) set ++ text_list names)
   apart_all = apart_joined (filter (λ (t : List ℕ). not (is_known names t)) set) (text_list names)
-      (ascending_apart text_cmp nat_list_cmp_total (filter (λ (t : List ℕ). not (is_known names t)) set) (filter_ascending text_cmp nat_list_cmp_total (λ (t : List ℕ). not (is_known names t)) set up))
+      (ascending_once text_cmp nat_list_cmp_total (filter (λ (t : List ℕ). not (is_known names t)) set) (filter-ascending text_cmp nat_list_cmp_total (λ (t : List ℕ). not (is_known names t)) set up))
       (apart_texts names tab.distinct)
       (λ z i j. true≢false (sym (filter_in (λ (t : List ℕ). not (is_known names t)) set z i).1 ∙ ap not (known_listed z j)))
 

@@ -13,10 +13,14 @@ use Rattle.label_graph.specs.declared.link.Link.{Link}
 use Rattle.label_graph.specs.declared.names.Name.{Name}
 use Rattle.label_graph.specs.Names.{slot, text_at, lowered, IsUnknown}
 use Rattle.label_graph.specs.SetNames.{is_known, raised_in, lowered_in, IsRaised}
-use Rattle.label_graph.specs.Sorted.{In, sorted}
+use Rattle.flux_model.specs.Members.{In}
+use Rattle.flux_model.proofs.MemberLemmas.{filter_in, in_filter, in_permutation, in_permutation_back, none_in}
+use Rattle.flux_laws.proofs.AscendingLemmas.{filter-ascending}
+use Rattle.flux_laws.proofs.SameMembersLemmas.{ascending_same}
+use Rattle.label_graph.specs.Sorted.{sorted}
 use Rattle.label_graph.specs.Store.{triple_of, kept_graph, use_count, IsNamed}
 use Rattle.label_graph.proofs.SetNameLemmas.{raised_here, raised_apart, text_kept, lowered_here, lowered_apart, known_at, unknown_is}
-use Rattle.label_graph.proofs.SortedLemmas.{ascending_same, sorted_ascending, sorted_in, in_sorted, sorted_same, filter_ascending, filter_in, in_filter, in_permutation, in_permutation_back, none_in, IsExactOn}
+use Rattle.label_graph.proofs.SortedLemmas.{sorted_ascending, sorted_in, in_sorted, sorted_same, IsExactOn}
 use Rattle.label_graph.proofs.StoreLemmas.{vertex_total, count_cons, count_permutation, count_in, known_label, known_slot, text_of_slot, lowered_cases, same_graph}
 
 -- ---- vertices in another order
@@ -231,7 +235,7 @@ vertices_without names vertices vertices' links v h p gone =
     let exact : IsExactOn vertex_cmp vertex_total vertices = exact_vertices names vertices links h in
     let back : (z : Vertex) → In vertices' z → In vertices z = λ z i. in_permutation vertices (v ∷ vertices') p z (inr i) in
     ascending_same vertex_cmp vertex_total (filter (λ (w : Vertex). not (w.id == v.id)) (sorted vertex_cmp vertices)) (sorted vertex_cmp vertices')
-    (filter_ascending vertex_cmp vertex_total (λ (w : Vertex). not (w.id == v.id)) (sorted vertex_cmp vertices) (sorted_ascending vertex_cmp vertex_total vertices))
+    (filter-ascending vertex_cmp vertex_total (λ (w : Vertex). not (w.id == v.id)) (sorted vertex_cmp vertices) (sorted_ascending vertex_cmp vertex_total vertices))
     (sorted_ascending vertex_cmp vertex_total vertices')
     (λ z i.
     let f = filter_in (λ (w : Vertex). not (w.id == v.id)) (sorted vertex_cmp vertices) z i in

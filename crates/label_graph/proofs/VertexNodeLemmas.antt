@@ -21,11 +21,12 @@ use Rattle.label_graph.specs.declared.link.Places.{Places}
 use Rattle.label_graph.specs.declared.link.Turn.{Turn}
 use Rattle.label_graph.specs.declared.names.Name.{Name}
 use Rattle.label_graph.specs.Places.{ArePlaced, link_eq, vertex_of, outs_of, ins_of, outs, ins, out_link, in_link}
-use Rattle.label_graph.specs.Sorted.{In}
+use Rattle.flux_model.specs.Members.{In}
+use Rattle.flux_model.proofs.MemberLemmas.{any_in, in_any}
 use Rattle.label_graph.specs.Store.{triple_of, kept_graph}
 use Rattle.label_graph.proofs.LinkLemmas.{same_placed}
 use Rattle.label_graph.proofs.PlaceLemmas.{link_same, link_refl, option_map_some, IsSome-mapped}
-use Rattle.label_graph.proofs.SortedLemmas.{any_sorted, any_in, in_any}
+use Rattle.label_graph.proofs.SortedLemmas.{any_sorted}
 use Rattle.label_graph.proofs.StoreLemmas.{triple_total, any_vertex}
 use Rattle.graph_traits.proofs.NumberLemmas.{triple_exact}
 

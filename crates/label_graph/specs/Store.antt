@@ -9,7 +9,8 @@ use Rattle.label_graph.specs.declared.link.Link.{Link}
 use Rattle.label_graph.specs.declared.link.Turn.{Turn}
 use Rattle.label_graph.specs.declared.names.Name.{Name}
 use Rattle.label_graph.specs.Names.{slot, text_at, IsUnknown}
-use Rattle.label_graph.specs.Sorted.{In, sorted}
+use Rattle.flux_model.specs.Members.{In}
+use Rattle.label_graph.specs.Sorted.{sorted}
 
 -- the triple of a link, under the names
 abbrev pub triple_of : List (Option Name) → Link → Triple

@@ -1,7 +1,7 @@
 -- The pairs of an embedding are explicit: the root reaches each along the tree, and each extends to the leaves.
-use Rattle.std.proofs.Common.{◌≡◌, ◌≢◌, ℕ, zero, suc, ◌+◌, ◌<◌, ◌≤◌, Bool, true, cond, ◌&&◌, ◌||◌, ◌==◌, List, [], ◌∷◌, length, slice_index, Option, Some, None, inl, inr, refl, sym, ap, ◌∙◌, arith}
+use Rattle.std.proofs.Common.{◌≡◌, ◌≢◌, ℕ, zero, suc, ◌+◌, ◌<◌, ◌≤◌, Bool, true, cond, ◌&&◌, ◌||◌, ◌==◌, List, [], ◌∷◌, length, slice_index, Option, Some, None, inl, inr, refl, ap, ◌∙◌, arith}
 use Rattle.std.specs.Prelude.{◌⊎◌}
-use Rattle.std.specs.List.{list_all, list_any, filter_map, range_with_len}
+use Rattle.std.specs.List.{list_all, list_any, range_with_len}
 use Rattle.std.specs.Str.{bytes_eq}
 use Rattle.std.proofs.lemmas.Bool.{and_parts, and_from, or_right, or_left, or_cases, eqb-true, eq-eqb, ne_eqb, cases_eq}
 use Rattle.std.proofs.lemmas.Cmp.{nat_list_eq_equiv}
@@ -12,21 +12,11 @@ use Rattle.flux_model.specs.States.{Joint, Joined, joint_of, joined, reaches_wit
 use Rattle.flux_model.specs.Tree.{QueryTree, edge_at, link_at, children, is_child, is_between, BelongsTo}
 use Rattle.flux_model.specs.declared.pattern.PatternEdge.{PatternEdge}
 use Rattle.flux_model.specs.declared.tree.TreeLink.{TreeLink}
-use Rattle.label_graph.specs.Sorted.{In}
-use Rattle.label_graph.proofs.SortedLemmas.{any_in, filter_in}
+use Rattle.flux_model.specs.Members.{In}
+use Rattle.flux_model.proofs.MemberLemmas.{any_in, filter_in, in_filter_map}
 use Rattle.query_tree.specs.Depth.{depth}
 use Rattle.query_tree.proofs.CallerLemmas.{link_within, parent_within, linked, child_link, depth-below, depth-small}
 use Rattle.tree_search.proofs.EmbeddingLemmas.{triple_in, id_fits, edge_has}
-
-pub in_filter_map : {X Y : Type 0} (f : X → Option Y) (xs : List X) (x : X) (y : Y) → In xs x → f x ≡ Some y → In (filter_map f xs) y
-in_filter_map f [] x y i e = absurd i
-in_filter_map f (z ∷ zs) x y (inl same) e =
-    let here : f z ≡ Some y = ap f (sym same) ∙ e in rw here (inl refl)
-in_filter_map f (z ∷ zs) x y (inr i) e = by (f z) refl (in_filter_map f zs x y i e)
-  where
-    by : (o : Option _) → f z ≡ o → In (filter_map f zs) y → In (filter_map f (z ∷ zs)) y
-    by None n m = rw n m
-    by (Some w) n m = rw n (inr m)
 
 all_true : {X : Type 0} (p : X → Bool) (xs : List X) → ((x : X) → In xs x → p x ≡ true) → list_all p xs ≡ true
 all_true p [] h = refl

@@ -1,10 +1,10 @@
 -- What a search without dead ends costs.
-use Rattle.std.proofs.Common.{◌≡◌, ℕ, zero, suc, ◌+◌, ◌-◌, ◌*◌, ◌<◌, ◌≤◌, Bool, true, false, cond, ◌==◌, List, [], ◌∷◌, drop, length, slice_index, Option, Some, None, inl, inr, refl, sym, ap, ◌∙◌, subst, arith}
-use Rattle.std.specs.Prelude.{◌⊎◌, slice_set, IsPermutation}
+use Rattle.std.proofs.Common.{◌≡◌, ℕ, suc, ◌+◌, ◌-◌, ◌*◌, ◌<◌, ◌≤◌, Bool, true, false, cond, ◌==◌, List, [], ◌∷◌, drop, length, slice_index, Option, Some, None, inl, inr, refl, sym, ap, ◌∙◌, subst, arith}
+use Rattle.std.specs.Prelude.{slice_set, IsPermutation}
 use Rattle.std.specs.List.{sum_by, range_with_len}
 use Rattle.std.proofs.Math.Nat.{mul-add, mul-suc, add-mul, mul-le-mul_left}
 use Rattle.std.proofs.Math.Seq.{drop-cons}
-use Rattle.std.proofs.lemmas.Bool.{cases_eq, both_ways}
+use Rattle.std.proofs.lemmas.Bool.{both_ways}
 use Rattle.std.proofs.lemmas.List.Sorted.{sum_by-IsPermutation, length_permutation}
 use Rattle.std.proofs.lemmas.List.Sums.{sum_by-cons, sum_by-append, length-filter}
 use Rattle.std.proofs.lemmas.Option.{get_or_from_slice_get, slice_get-get_or, slice_get_within}
@@ -18,8 +18,8 @@ use Rattle.flux_model.specs.States.{joined, is_explicit}
 use Rattle.flux_model.specs.Tree.{QueryTree, link_at}
 use Rattle.flux_model.specs.declared.graph.Triple.{Triple}
 use Rattle.flux_model.specs.declared.tree.TreeLink.{TreeLink}
-use Rattle.label_graph.specs.Sorted.{In}
-use Rattle.label_graph.proofs.RowLemmas.{AreOnce, once_permutation, once_by_place, in_by_place, place_of}
+use Rattle.flux_model.specs.Members.{In, AreOnce}
+use Rattle.flux_model.proofs.MemberLemmas.{once_permutation, once_by_place, in_by_place, place_of, range_in, in_range, range_once}
 use Rattle.match_order.specs.Whole.{vertices}
 use Rattle.match_order.proofs.CallerLemmas.{place_of_vertex, vertex_within, one_place}
 use Rattle.dcg_transition.specs.Ends.{whole_row, ends_of}
@@ -132,24 +132,7 @@ module _ (q : PatternGraph) (t : QueryTree) (d : StateRows) (g : Graph) (o : Sea
 
   -- ---- the whole of an embedding's cost
 
-  -- the order has each vertex once
-  in_range : (b n x : ℕ) → In (range_with_len b n) x → (b ≤ x) × (x < b + n)
-  in_range b zero x i = absurd i
-  in_range b (suc n) x (inl e) = (omega (arith, e), omega (arith, e))
-  in_range b (suc n) x (inr i) = let r = in_range (b + 1) n x i in (omega (arith, r.0), omega (arith, r.1))
-
-  range_in : (b n x : ℕ) → b ≤ x → x < b + n → In (range_with_len b n) x
-  range_in b zero x low high = absurd (omega (arith, low, high))
-  range_in b (suc n) x low high = by (cases_eq x b) (range_in (b + 1) n x)
-    where
-      by : (x ≡ b) ⊎ (x ≡ b → ⊥) → (b + 1 ≤ x → x < b + 1 + n → In (range_with_len (b + 1) n) x) → In (range_with_len b (suc n)) x
-      by (inl same) rest = inl same
-      by (inr other) rest = inr (rest (omega arith) (omega arith))
-
-  range_once : (b n : ℕ) → AreOnce (range_with_len b n)
-  range_once b zero = tt
-  range_once b (suc n) = (λ i. (let r = in_range (b + 1) n b i in omega (arith, r.0)), range_once (b + 1) n)
-
+  -- an embedding costs its scale and what its rows from place 1 on cost
   pub embedding_paid : (m : List ℕ) → embedding_cost q t g m ≡ scale + cost_from q t g o 1 m
   embedding_paid m =
       let n = vertex_count q in
@@ -163,8 +146,8 @@ module _ (q : PatternGraph) (t : QueryTree) (d : StateRows) (g : Graph) (o : Sea
     where
       listed : IsPermutation (vertices o) (range_with_len 0 (vertex_count q))
       listed = once_permutation (vertices o) (range_with_len 0 (vertex_count q)) vertices_once (range_once 0 (vertex_count q))
-          (λ u i. range_in 0 (vertex_count q) u (omega arith) (inside u i))
-          (λ u i. here u (in_range 0 (vertex_count q) u i).1)
+          (λ u i. in_range 0 (vertex_count q) u (omega arith) (inside u i))
+          (λ u i. here u (range_in 0 (vertex_count q) u i).1)
         where
           vertices_once : AreOnce (vertices o)
           vertices_once = once_by_place (vertices o) (λ i j x p r.

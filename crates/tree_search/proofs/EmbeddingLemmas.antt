@@ -16,8 +16,8 @@ use Rattle.flux_model.specs.declared.graph.Triple.{Triple}
 use Rattle.flux_model.specs.declared.graph.Vertex.{Vertex}
 use Rattle.flux_laws.proofs.GraphsLemmas.{triple_exact}
 use Rattle.flux_laws.proofs.SetsLemmas.{triple_total}
-use Rattle.label_graph.specs.Sorted.{In}
-use Rattle.label_graph.proofs.SortedLemmas.{filter_in, in_any, any_in}
+use Rattle.flux_model.specs.Members.{In}
+use Rattle.flux_model.proofs.MemberLemmas.{filter_in, in_any, any_in}
 
 -- ---- lists
 

@@ -16,8 +16,8 @@ use Rattle.flux_model.specs.Ordered.{is_ascending}
 use Rattle.flux_model.specs.declared.graph.Triple.{Triple}
 use Rattle.flux_laws.proofs.AscendingLemmas.{below_rest, tail_ascending, filter-ascending}
 use Rattle.flux_laws.proofs.SetsLemmas.{triple_total}
-use Rattle.label_graph.specs.Sorted.{In}
-use Rattle.label_graph.proofs.SortedLemmas.{filter_in, in_filter, mapped_in, in_mapped, in_permutation, in_permutation_back}
+use Rattle.flux_model.specs.Members.{In}
+use Rattle.flux_model.proofs.MemberLemmas.{filter_in, in_filter, mapped_in, in_mapped, in_permutation, in_permutation_back}
 use Rattle.dcg_transition.specs.Ends.{whole_row, triple_of, other_end, ends_of}
 use Rattle.dcg_transition.specs.declared.direction.Direction.{Direction}
 use Rattle.dcg_transition.specs.declared.direction.Direction.TheVariants.{Out, In as Inward}

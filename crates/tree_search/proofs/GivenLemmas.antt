@@ -15,7 +15,7 @@ use Rattle.flux_model.specs.Tree.{QueryTree, edge_at, link_at, is_child, Belongs
 use Rattle.flux_model.specs.declared.graph.Triple.{Triple}
 use Rattle.flux_model.specs.declared.pattern.PatternEdge.{PatternEdge}
 use Rattle.flux_model.specs.declared.tree.TreeLink.{TreeLink}
-use Rattle.label_graph.specs.Sorted.{In}
+use Rattle.flux_model.specs.Members.{In}
 use Rattle.match_order.specs.Whole.{vertices}
 use Rattle.match_order.proofs.CallerLemmas.{HangsFrom, vertex_within, place_of_vertex, vertices_apart, anchor_joined, child_hangs}
 use Rattle.match_order.proofs.LinkLemmas.{anchor_is}

@@ -1,11 +1,11 @@
 -- Without edges that the tree leaves out, and in mode Hom, a search from the root has no dead end.
-use Rattle.std.proofs.Common.{◌≡◌, ◌≢◌, ℕ, zero, suc, ◌+◌, ◌<◌, ◌≤◌, Bool, true, false, cond, ◌&&◌, ◌==◌, List, [], ◌∷◌, length, slice_index, Option, Some, None, inl, inr, refl, sym, ap, ◌∙◌, subst, arith}
+use Rattle.std.proofs.Common.{◌≡◌, ◌≢◌, ℕ, zero, suc, ◌+◌, ◌<◌, ◌≤◌, Bool, true, false, cond, ◌&&◌, ◌==◌, List, length, slice_index, Option, Some, None, inl, inr, refl, sym, ap, ◌∙◌, subst, arith}
 use Rattle.std.specs.Prelude.{◌⊎◌}
-use Rattle.std.specs.List.{list_any, list_all, filter_map, range_with_len}
+use Rattle.std.specs.List.{list_any, list_all, range_with_len}
 use Rattle.std.specs.Ordering.{is_eq}
 use Rattle.std.specs.Str.{bytes_eq}
 use Rattle.std.specs.Cmp.Lexicographic.{same_text}
-use Rattle.std.proofs.lemmas.Bool.{and_parts, and_from, eqb-true, eq-eqb, ne_eqb, cases_eq, both_ways}
+use Rattle.std.proofs.lemmas.Bool.{and_parts, and_from, eqb-true, eq-eqb, ne_eqb, both_ways}
 use Rattle.std.proofs.lemmas.Cmp.{tied_itself}
 use Rattle.flux_model.specs.Exact.{StateRows}
 use Rattle.flux_model.specs.Graph.{Graph, has_triple, triple_cmp}
@@ -20,10 +20,9 @@ use Rattle.flux_model.specs.declared.pattern.Mode.TheVariants.{Hom, Iso}
 use Rattle.flux_model.specs.declared.pattern.PatternEdge.{PatternEdge}
 use Rattle.flux_model.specs.declared.tree.TreeLink.{TreeLink}
 use Rattle.flux_laws.proofs.SetsLemmas.{triple_total}
-use Rattle.dcg_store.proofs.ListLemmas.{In, found_in, list_any-in}
+use Rattle.flux_model.specs.Members.{In}
+use Rattle.flux_model.proofs.MemberLemmas.{in_any, any_in, filter_in, in_filter, filter_map_in, in_range}
 use Rattle.dcg_store.proofs.StateLemmas.{HasDepths, extends_stable, reaches_below}
-use Rattle.label_graph.specs.Sorted.{In as Has}
-use Rattle.label_graph.proofs.SortedLemmas.{filter_in, in_filter}
 use Rattle.match_order.specs.Whole.{vertices}
 use Rattle.match_order.proofs.CallerLemmas.{HangsFrom, vertex_within, one_place, anchor_before, anchor_joined}
 use Rattle.query_tree.specs.Depth.{depth}
@@ -55,20 +54,8 @@ fits_when (suc n) j u v h = (and_parts _ _ h).0
 
 -- ---- the joints of a tree edge
 
-from_filter_map : {X Y : Type 0} (f : X → Option Y) (xs : List X) (y : Y) → In y (filter_map f xs) → (x : X) × In x xs × (f x ≡ Some y)
-from_filter_map f [] y i = absurd i
-from_filter_map {X} {Y} f (z ∷ zs) y i = by (f z) refl i (from_filter_map f zs y)
-  where
-    by : (o : Option Y) → f z ≡ o → In y (filter_map f (z ∷ zs)) → (In y (filter_map f zs) → (x : X) × In x zs × (f x ≡ Some y)) → (x : X) × In x (z ∷ zs) × (f x ≡ Some y)
-    by None e j rest = let r = rest (rw e at j) in (r.0, inr r.1, r.2)
-    by (Some w) e j rest = at_first (rw e at j)
-      where
-        at_first : (y ≡ w) ⊎ In y (filter_map f zs) → (x : X) × In x (z ∷ zs) × (f x ≡ Some y)
-        at_first (inl same) = (z, inl refl, e ∙ ap Some (sym same))
-        at_first (inr k) = let r = rest k in (r.0, inr r.1, r.2)
-
-has_in : (g : Graph) (s : Triple) → In s g.triples → has_triple g s ≡ true
-has_in g s i = list_any-in (λ y. is_eq (triple_cmp s y)) s g.triples i (ap is_eq (tied_itself triple_total s))
+has_in : (g : Graph) (s : Triple) → In g.triples s → has_triple g s ≡ true
+has_in g s i = any_in (λ y. is_eq (triple_cmp s y)) g.triples s i (ap is_eq (tied_itself triple_total s))
 
 module _ (q : PatternGraph) (t : QueryTree) (g : Graph) (w : ℕ) (l : TreeLink) (link : link_at t w ≡ Some l) where
   abbrev e : PatternEdge
@@ -93,9 +80,9 @@ module _ (q : PatternGraph) (t : QueryTree) (g : Graph) (w : ℕ) (l : TreeLink)
       by false b c at same = absurd (let clash : None ≡ Some r = same in cc)
 
   -- it stands in the row of the upper end
-  joint_stands : (r : Joint) → In r ((joined q t g).joints w) → has_triple g (triple_of (direction_to e w) r.above e.label r.below) ≡ true
+  joint_stands : (r : Joint) → In ((joined q t g).joints w) r → has_triple g (triple_of (direction_to e w) r.above e.label r.below) ≡ true
   joint_stands r i =
-      let s = from_filter_map (joint_of q t g w) g.triples r i in
+      let s = filter_map_in (joint_of q t g w) g.triples r i in
       let is = joint_is s.0 r s.2 in
       ap (has_triple g) (by is.0 is.1) ∙ has_in g s.0 s.1
     where
@@ -173,9 +160,9 @@ module _ (q : PatternGraph) (t : QueryTree) (d : StateRows) (g : Graph) (o : Sea
     leads_on v is =
         let two = and_parts (reaches (joined q t g) a v) (extends (joined q t g) a v) is in
         let far : extends_within (suc n.0) (joined q t g) a v ≡ true = subst (λ m. extends_within m (joined q t g) a v ≡ true) n.1 two.1 in
-        let child : Has (children t a) w = in_filter (is_child t a) (range_with_len 0 (length t.links)) w (numbered 0 (length t.links) w (omega arith) (omega (arith, inside))) (ap (λ b. is_child t b w) (sym above.2) ∙ is_child_of t w above.0 above.1) in
+        let child : In (children t a) w = in_filter (is_child t a) (range_with_len 0 (length t.links)) w (in_range 0 (length t.links) w (omega arith) (omega (arith, inside))) (ap (λ b. is_child t b w) (sym above.2) ∙ is_child_of t w above.0 above.1) in
         let some : list_any (λ r. r.above == v && extends_within n.0 (joined q t g) w r.below) ((joined q t g).joints w) ≡ true = in_all (λ c. list_any (λ r. r.above == v && extends_within n.0 (joined q t g) c r.below) ((joined q t g).joints c)) (children t a) w (and_parts _ _ far).1 child in
-        let r = found_in (λ r. r.above == v && extends_within n.0 (joined q t g) w r.below) ((joined q t g).joints w) some in
+        let r = in_any (λ r. r.above == v && extends_within n.0 (joined q t g) w r.below) ((joined q t g).joints w) some in
         let at = and_parts (r.0.above == v) (extends_within n.0 (joined q t g) w r.0.below) r.2 in
         let top : r.0.above ≡ v = eqb-true r.0.above v at.0 in
         let down : depth t w ≡ suc (depth t above.0.parent) = depth-below t ready.belongs.tree w above.0 above.1 in
@@ -186,14 +173,6 @@ module _ (q : PatternGraph) (t : QueryTree) (d : StateRows) (g : Graph) (o : Sea
           and_from (reaches (joined q t g) w r.0.below) (extends (joined q t g) w r.0.below) reached on,
           (λ i. has_triple g (triple_of (direction_to (edge_at q above.0.edge) w) (sym top i) (edge_at q above.0.edge).label r.0.below)) ∙ joint_stands q t g w above.0 above.1 r.0 r.1,
         )
-      where
-        numbered : (b m x : ℕ) → b ≤ x → x < b + m → Has (range_with_len b m) x
-        numbered b zero x low high = absurd (omega (arith, low, high))
-        numbered b (suc m) x low high = by (cases_eq x b) (numbered (b + 1) m x)
-          where
-            by : (x ≡ b) ⊎ (x ≡ b → ⊥) → (b + 1 ≤ x → x < b + 1 + m → Has (range_with_len (b + 1) m) x) → Has (range_with_len b (suc m)) x
-            by (inl same) rest = inl same
-            by (inr other) rest = inr (rest (omega arith) (omega arith))
 
     pub row_of_anchor : (v : ℕ) → id_of p a ≡ Some v → IsRowAt q t o k p v (direction_to (edge_at q (edge_between t w a)) w) (edge_at q (edge_between t w a)).label
     row_of_anchor v has = record { anchor = has; leads = refl; name = refl }
@@ -210,11 +189,11 @@ module _ (q : PatternGraph) (t : QueryTree) (d : StateRows) (g : Graph) (o : Sea
 
   -- ---- an embedding goes on
 
-  pub goes_somewhere : MeetsNoDeadEnd q t → (left k : ℕ) → k + left ≡ length (vertices o) → 1 ≤ k → (p : List (Option ℕ)) → IsGiven q t g o k p → (m : List ℕ) × Has (members_from q g p) m
-  goes_somewhere live zero k size some p known = (ids_of p, subst (λ l. Has l (ids_of p)) (sym (one_member q t d g o ready k (omega (arith, size)) p known)) (inl refl))
+  pub goes_somewhere : MeetsNoDeadEnd q t → (left k : ℕ) → k + left ≡ length (vertices o) → 1 ≤ k → (p : List (Option ℕ)) → IsGiven q t g o k p → (m : List ℕ) × In (members_from q g p) m
+  goes_somewhere live zero k size some p known = (ids_of p, subst (λ l. In l (ids_of p)) (sym (one_member q t d g o ready k (omega (arith, size)) p known)) (inl refl))
   goes_somewhere live (suc left) k size some p known =
       let few : k < length (vertices o) = omega (arith, size) in
       let next = next_given live k some few p known in
       let more = goes_somewhere live left (suc k) (omega (arith, size)) (omega arith) (with_id p (nth_vertex o k) next.0) next.1 in
-      let here = subst (λ l. Has l more.0) (members_with q g p (nth_vertex o k) (vertex_inside q t d g o ready k few p known) (vertex_free q t d g o ready k few p known) next.0) more.1 in
+      let here = subst (λ l. In l more.0) (members_with q g p (nth_vertex o k) (vertex_inside q t d g o ready k few p known) (vertex_free q t d g o ready k few p known) next.0) more.1 in
       (more.0, (filter_in (λ (m : List ℕ). slice_index m (nth_vertex o k) == next.0) (members_from q g p) more.0 here).0)

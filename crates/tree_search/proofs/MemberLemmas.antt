@@ -8,7 +8,7 @@ use Rattle.flux_model.specs.Graph.{Graph}
 use Rattle.flux_model.specs.Pattern.{PatternGraph}
 use Rattle.flux_model.specs.Embedding.{embeddings}
 use Rattle.flux_model.specs.Partial.{id_of, with_id}
-use Rattle.label_graph.specs.Sorted.{In}
+use Rattle.flux_model.specs.Members.{In}
 use Rattle.tree_search.specs.Members.{agrees, goes_on, members_from, members_over}
 use Rattle.tree_search.proofs.SplitLemmas.{by_key, split_by_key}
 

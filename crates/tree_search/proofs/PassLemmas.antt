@@ -15,8 +15,8 @@ use Rattle.flux_model.specs.Tree.{QueryTree, edge_at, non_tree, BelongsTo}
 use Rattle.flux_model.specs.declared.pattern.Mode.{Mode}
 use Rattle.flux_model.specs.declared.pattern.Mode.TheVariants.{Hom, Iso}
 use Rattle.flux_model.specs.declared.pattern.PatternEdge.{PatternEdge}
-use Rattle.label_graph.specs.Sorted.{In}
-use Rattle.label_graph.proofs.SortedLemmas.{filter_in}
+use Rattle.flux_model.specs.Members.{In}
+use Rattle.flux_model.proofs.MemberLemmas.{filter_in}
 use Rattle.nontree_test.proofs.NonTreeLemmas.{non_tree_within}
 use Rattle.tree_search.specs.Given.{may_have}
 use Rattle.tree_search.specs.Members.{agrees, goes_on, members_from}

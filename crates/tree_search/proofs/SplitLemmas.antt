@@ -4,8 +4,8 @@ use Rattle.std.specs.Prelude.{IsPermutation, flat_map, filter}
 use Rattle.std.specs.List.{IsDistinct, AllByRecursion}
 use Rattle.std.proofs.lemmas.Bool.{eqb-false, eq-eqb, ne_eqb, cases_eq}
 use Rattle.std.proofs.lemmas.List.Sorted.{IsPermutation-trans, IsPermutation-append_right, IsPermutation-sym, IsPermutation-refl, IsPermutation-filter_both}
-use Rattle.label_graph.specs.Sorted.{In}
-use Rattle.label_graph.proofs.SortedLemmas.{filter_in}
+use Rattle.flux_model.specs.Members.{In}
+use Rattle.flux_model.proofs.MemberLemmas.{filter_in}
 
 abbrev pub by_key : {X : Type 0} → (X → ℕ) → List X → List ℕ → List X
 by_key key xs zs = flat_map (λ z. filter (λ x. key x == z) xs) zs

@@ -23,8 +23,8 @@ use Rattle.flux_model.specs.declared.graph.Triple.{Triple}
 use Rattle.flux_model.specs.declared.graph.Vertex.{Vertex}
 use Rattle.flux_laws.proofs.AscendingLemmas.{below_rest, tail_ascending}
 use Rattle.flux_laws.proofs.SetsLemmas.{vertex_total}
-use Rattle.label_graph.specs.Sorted.{In}
-use Rattle.label_graph.proofs.SortedLemmas.{in_any, mapped_in, in_mapped, in_permutation}
+use Rattle.flux_model.specs.Members.{In}
+use Rattle.flux_model.proofs.MemberLemmas.{in_any, mapped_in, in_mapped, in_permutation}
 use Rattle.match_order.specs.Whole.{vertices}
 use Rattle.dcg_transition.specs.Ends.{whole_row, triple_of, ends_of}
 use Rattle.dcg_transition.specs.declared.direction.Direction.{Direction}

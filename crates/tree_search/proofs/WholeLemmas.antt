@@ -18,8 +18,10 @@ use Rattle.flux_model.specs.Pattern.{PatternGraph, HasEnds, vertex_count, fits_l
 use Rattle.flux_model.specs.States.{joined, reaches_within}
 use Rattle.flux_model.specs.Tree.{QueryTree, edge_at}
 use Rattle.flux_laws.proofs.EmbeddingsLemmas.{embeddings-ascending, same_exact, found}
-use Rattle.label_graph.specs.Sorted.{In}
-use Rattle.label_graph.proofs.SortedLemmas.{filter_in, in_filter, in_any, ascending_same, filter_ascending}
+use Rattle.flux_model.specs.Members.{In}
+use Rattle.flux_model.proofs.MemberLemmas.{filter_in, in_filter, in_any}
+use Rattle.flux_laws.proofs.AscendingLemmas.{filter-ascending}
+use Rattle.flux_laws.proofs.SameMembersLemmas.{ascending_same}
 use Rattle.match_order.specs.Whole.{vertices}
 use Rattle.match_order.proofs.CallerLemmas.{place_of_vertex}
 use Rattle.nontree_test.proofs.CallerLemmas.{keeps_mode_at_end, keeps_edges_at_end, stands_at_end}
@@ -79,7 +81,7 @@ all_from_none q g = filter_none (goes_on (replicate (vertex_count q) None)) (emb
 one_left : (test : List ℕ → Bool) (xs : List (List ℕ)) (x : List ℕ) → is_ascending (slice_cmp nat_cmp) xs ≡ true → In xs x → test x ≡ true → ((m : List ℕ) → test m ≡ true → m ≡ x) → filter test xs ≡ x ∷ []
 one_left test xs x a i passes only =
     ascending_same (slice_cmp nat_cmp) nat_list_cmp_total (filter test xs) (x ∷ [])
-    (filter_ascending (slice_cmp nat_cmp) nat_list_cmp_total test xs a) refl
+    (filter-ascending (slice_cmp nat_cmp) nat_list_cmp_total test xs a) refl
     (λ m j. inl (only m (filter_in test xs m j).1))
     (λ m j. here m j)
   where

@@ -1,7 +1,7 @@
 use Rattle.std.proofs.Common.{◌≡◌, ℕ, ◌+◌, ◌-◌, ◌*◌, ◌≤◌, IsTrue, length}
 use Rattle.std.specs.List.{sum_by}
 use Rattle.flux_model.specs.Graph.{has_triple}
-use Rattle.label_graph.specs.Sorted.{In}
+use Rattle.flux_model.specs.Members.{In}
 use Rattle.match_order.specs.Whole.{vertices}
 use Rattle.dcg_transition.specs.Ends.{row_from, triple_of, ends_from, IsPlaceOf}
 use Rattle.tree_search.specs.Members.{members_from, members_over, GrewUpTo}
