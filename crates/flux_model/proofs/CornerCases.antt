@@ -1,10 +1,11 @@
 -- Corner cases, computed from the definitions.
-use Rattle.std.specs.Prelude.{◌≡◌, ℕ, false, List, [], ◌∷◌, ◌++◌, codes, Option, Some, None, Ok, Err, refl}
+use Rattle.std.specs.Prelude.{◌≡◌, ℕ, true, false, List, [], ◌∷◌, ◌++◌, codes, Option, Some, None, Ok, Err, refl}
 use Rattle.flux_model.specs.Limits.{standard}
 use Rattle.flux_model.specs.Lines.{held, long, lines, rest}
 use Rattle.flux_model.specs.Reading.{update_reading, pattern_reading}
 use Rattle.flux_model.specs.Graph.{Graph, apply}
-use Rattle.flux_model.specs.Pattern.{PatternGraph}
+use Rattle.flux_model.specs.GraphFile.{graph_of}
+use Rattle.flux_model.specs.Pattern.{PatternGraph, reached, is_connected}
 use Rattle.flux_model.specs.PatternFile.{patterns_of}
 use Rattle.flux_model.specs.Tree.{QueryTree, edge_cards, tree_for}
 use Rattle.flux_model.specs.declared.tree.TreeLink.{TreeLink}
@@ -52,6 +53,26 @@ new_name = refl
 same_name : apply (record standard { labels = 1 }) (record { vertices = vertex 1 (codes "r" ∷ []) ∷ []; triples = [] }) (AddEdge (edge 1 1)) ≡ Ok (record { vertices = vertex 1 (codes "r" ∷ []) ∷ []; triples = edge 1 1 ∷ [] })
 same_name = refl
 
+-- the names on triples count, and only new ones of the vertex
+abbrev looped : Graph
+looped = record { vertices = vertex 1 [] ∷ []; triples = edge 1 1 ∷ [] }
+
+triple_name : apply (record standard { labels = 1 }) looped (AddVertex 2 (codes "A" ∷ [])) ≡ Err code.Full
+triple_name = refl
+
+name_of_a_triple : apply (record standard { labels = 1 }) looped (AddVertex 2 (codes "r" ∷ [])) ≡ Ok (record looped { vertices = vertex 1 [] ∷ vertex 2 (codes "r" ∷ []) ∷ [] })
+name_of_a_triple = refl
+
+-- triples ascend by source, then by label, then by target
+triple_order : graph_of standard (codes "v 1\nv 2\ne 2 1 a\ne 1 1 s\ne 1 2 r\ne 1 1 r\n")
+    ≡ Ok (record { vertices = vertex 1 [] ∷ vertex 2 [] ∷ []; triples = edge 1 1 ∷ edge 1 2 ∷ record { src = 1; label = codes "s"; dst = 1 } ∷ record { src = 2; label = codes "a"; dst = 1 } ∷ [] })
+triple_order = refl
+
+-- a name that is there already is looked for before the number of patterns
+name_before_number : (patterns_of (record standard { patterns = 1 }) (codes "p a hom\nv 0\np a iso") ≡ Err (record { line = 3; code = code.Exists }))
+    × (patterns_of (record standard { patterns = 1 }) (codes "p a hom\nv 0\np b iso") ≡ Err (record { line = 3; code = code.Full }))
+name_before_number = (refl, refl)
+
 -- pattern vertices come in order
 lower_number : patterns_of standard (codes "p a hom\nv 0\nv 0") ≡ Err (record { line = 3; code = code.Order })
 lower_number = refl
@@ -64,6 +85,13 @@ wanted tail head = record { tail = tail; label = codes "r"; head = head }
 
 abbrev two : Graph
 two = record { vertices = vertex 1 [] ∷ vertex 2 [] ∷ []; triples = edge 1 1 ∷ edge 1 2 ∷ [] }
+
+-- vertex 2 is reached against the direction of its edge, two edges away
+abbrev meeting : List PatternEdge
+meeting = wanted 0 1 ∷ wanted 2 1 ∷ []
+
+against_direction : (reached meeting 3 1 ≡ 0 ∷ 1 ∷ []) × (reached meeting 3 2 ≡ 0 ∷ 1 ∷ 2 ∷ []) × (is_connected (record { name = codes "p"; mode = Hom; labels = [] ∷ no_labels; edges = meeting }) ≡ true)
+against_direction = (refl, refl, refl)
 
 -- a loop fits loops alone
 loop_cards : edge_cards (record { name = codes "p"; mode = Hom; labels = no_labels; edges = wanted 0 0 ∷ wanted 0 1 ∷ [] }) two ≡ 1 ∷ 2 ∷ []
@@ -99,3 +127,7 @@ tight = record { name = codes "p"; mode = Hom; labels = (codes "A" ∷ []) ∷ [
 
 itself : extends (joined tight stem two) 0 1 ≡ false
 itself = refl
+
+-- also where the vertex is a leaf
+unfit_leaf : extends (joined labelled stem two) 1 2 ≡ false
+unfit_leaf = refl

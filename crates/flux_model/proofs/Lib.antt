@@ -7,6 +7,9 @@ pub mod FileReadingLemmas
 pub mod ReportLemmas
 pub mod TreeRows
 pub mod VerdictRows
+pub mod PartialRows
+pub mod ChangeRows
+pub mod CostRows
 pub mod GrownLemmas
 pub mod SortedLemmas
 pub mod PlaceLemmas

@@ -25,13 +25,16 @@ first_in (Ok (q ∷ qs)) = q
 first_in (Ok []) = record { name = []; mode = Hom; labels = []; edges = [] }
 first_in (Err _) = record { name = []; mode = Hom; labels = []; edges = [] }
 
-abbrev graph : List ℕ → Graph
+-- the graph of a file
+abbrev pub graph : List ℕ → Graph
 graph text = graph_in (graph_of standard text)
 
-abbrev pattern : List ℕ → PatternGraph
+-- the first pattern of a file
+abbrev pub pattern : List ℕ → PatternGraph
 pattern text = first_in (patterns_of standard text)
 
-abbrev under : ℕ → ℕ → Option TreeLink
+-- the link of a vertex: its parent, and the number of its edge
+abbrev pub under : ℕ → ℕ → Option TreeLink
 under parent edge = Some (record { parent = parent; edge = edge })
 
 -- the states of a pattern vertex with each of the ids

@@ -1,5 +1,5 @@
 -- Worked examples: how a run is due to end, computed from the definitions.
-use Rattle.std.specs.Prelude.{◌≡◌, ℕ, None, Some, List, [], ◌∷◌, codes, if◌then◌else◌, refl}
+use Rattle.std.specs.Prelude.{◌≡◌, ℕ, None, Some, List, [], ◌∷◌, codes, length, if◌then◌else◌, refl}
 use Rattle.std.specs.Str.{bytes_eq}
 use Rattle.std.specs.Fmt.{digits}
 use Rattle.flux_model.specs.Limits.{standard}
@@ -35,11 +35,23 @@ too_much : ends short ab ab_pattern watch_words (codes "e 1 2 r\n-e 1 2 r\ne 1 2
 unfolding digits
 too_much = refl
 
--- as many bytes as the limit are not too many
-just_enough : ends short ab ab_pattern watch_words (codes "e 1 2 r\n-e 1 2 r\ne 1 2 r\n# \n")
-    ≡ record { verdict = Done; text = codes "+ 1 ab 1 2\n- 2 ab 1 2\n+ 3 ab 1 2\n= 4 3 0\n" }
+-- a last line that the limit cuts off writes nothing, though what is left of it says something
+cut_line : ends short ab ab_pattern watch_words (codes "e 1 2 r\n-e 1 2 r\ne 1 2 r     \n")
+    ≡ record { verdict = TooMuch; text = codes "+ 1 ab 1 2\n- 2 ab 1 2\n" }
 unfolding digits
-just_enough = refl
+cut_line = refl
+
+-- as many bytes as the limit are not too many
+just_enough : (length (codes "e 1 2 r\n-e 1 2 r\ne 1 2 r\n# .\n") ≡ 29) × (ends short ab ab_pattern watch_words (codes "e 1 2 r\n-e 1 2 r\ne 1 2 r\n# .\n")
+    ≡ record { verdict = Done; text = codes "+ 1 ab 1 2\n- 2 ab 1 2\n+ 3 ab 1 2\n= 4 3 0\n" })
+unfolding digits
+just_enough = (refl, refl)
+
+-- also where the last line has no end
+just_enough_open : ends short ab ab_pattern watch_words (codes "e 1 2 r\n-e 1 2 r\ne 1 2 r     ")
+    ≡ record { verdict = Done; text = codes "+ 1 ab 1 2\n- 2 ab 1 2\n+ 3 ab 1 2\n= 3 3 0\n" }
+unfolding digits
+just_enough_open = refl
 
 -- a file that is too long is refused where one of its first whole lines is
 refused_first : ends short (codes "v 1 A\nx\nv 2 B\nv 3 C\nv 4 D\nv 5 E\n") ab_pattern watch_words []
@@ -50,6 +62,11 @@ refused_first = refl
 refused_later : ends short (codes "v 1 A\nv 2 B\nv 3 C\nv 4 D\nv 5 E\nx\n") ab_pattern watch_words []
     ≡ record { verdict = TooMuch; text = [] }
 refused_later = refl
+
+-- what stands behind the last line end of its front is not judged
+refused_in_the_rest : ends short (codes "v 1 A\nv 2 B\nv 3 C\nv 4 D\nx 5 E\n") ab_pattern watch_words []
+    ≡ record { verdict = TooMuch; text = [] }
+refused_in_the_rest = refl
 
 -- the pattern file is not looked at before the graph file is accepted
 graph_first : ends standard (codes "x\n") ab_pattern (codes "watch" ∷ codes "g" ∷ codes "none" ∷ []) []
