@@ -4,12 +4,15 @@ use Rattle.std.specs.Prelude.{IsPermutation, flat_map}
 use Rattle.std.specs.declared.cmp.Ordering.{Ordering}
 use Rattle.std.specs.declared.cmp.Ordering.TheVariants.{Less, Equal, Greater}
 use Rattle.std.specs.Ordering.{is_eq}
-use Rattle.std.specs.List.{list_all, list_any, filter, Contains, range_with_len}
-use Rattle.std.proofs.lemmas.Bool.{eqb-true, ne_eqb}
+use Rattle.std.specs.List.{list_all, list_any, filter, Contains, slice_get, range_with_len}
+use Rattle.std.specs.Str.{bytes_eq}
+use Rattle.std.proofs.lemmas.Bool.{eqb-true, ne_eqb, false_from_ne_true, both_ways}
 use Rattle.std.proofs.lemmas.Cmp.{nat_list_eq_equiv}
 use Rattle.std.proofs.lemmas.List.Sorted.{IsPermutation-filter_both, IsPermutation-append_right, IsPermutation-trans, IsPermutation-refl}
+use Rattle.std.proofs.lemmas.Option.{same_Some, none-some}
+use Rattle.std.proofs.lemmas.Slice.Eq.{bytes_eq-Decides}
 use Rattle.std.proofs.lemmas.Map.Views.{Contains-from_any, list_any-from_Contains}
-use Rattle.flux_model.specs.Graph.{Graph, ids, triple_cmp, has_triple, with_triple}
+use Rattle.flux_model.specs.Graph.{Graph, IsGraph, ids, triple_cmp, has_triple, with_triple, without_triple}
 use Rattle.flux_model.specs.Ordered.{is_in, put}
 use Rattle.flux_model.specs.Pattern.{PatternGraph, vertex_count}
 use Rattle.flux_model.specs.Embedding.{is_embedding, fit_all, keeps_edges, keeps_mode, image, id_lists, embeddings}
@@ -17,9 +20,11 @@ use Rattle.flux_model.specs.Change.{same_map, gained}
 use Rattle.flux_model.specs.declared.pattern.PatternEdge.{PatternEdge}
 use Rattle.flux_model.specs.declared.graph.Triple.{Triple}
 use Rattle.flux_model.specs.Classes.{is_sent, first_sent, is_number, edge_class}
-use Rattle.flux_laws.specs.ClassesLaws.{ClassesAreNew, ClassesAreApart, ClassesAreGained}
+use Rattle.flux_laws.specs.ClassesLaws.{ClassesAreNew, ClassesAreApart, ClassesAreGained, OtherLabelClassIsEmpty}
 use Rattle.flux_laws.proofs.TestLemmas.{both, eqb-refl}
-use Rattle.flux_laws.proofs.SetsLemmas.{same_triple}
+use Rattle.flux_laws.proofs.GraphsLemmas.{triple_exact}
+use Rattle.flux_laws.proofs.SetsLemmas.{triple_total, same_triple}
+use Rattle.flux_laws.proofs.UndoLemmas.{put_back, absent_after}
 use Rattle.flux_laws.proofs.EmbeddingsLemmas.{same_exact, passes, kept, found, embeds}
 
 -- ---- the first edge that is sent
@@ -205,11 +210,13 @@ module _ (q : PatternGraph) (g : Graph) (t : Triple) (absent : has_triple g t �
   gained_is : gained q g (with_triple g t) ≡ filter (λ m. within 0 (length q.edges) (first_sent 0 t m q.edges)) (embeddings q (with_triple g t))
   gained_is = alike_in (is_embedding q (with_triple g t)) _ _ (λ m h. is_new m h ∙ sym (sent_within 0 t m q.edges)) (id_lists (ids g) (vertex_count q))
 
+-- all classes together are what the triple brings
 pub are_gained : ClassesAreGained
 are_gained q g t absent =
     subst (λ l. IsPermutation l (flat_map (edge_class q (with_triple g t) t) (range_with_len 0 (length q.edges)))) (sym (gained_is q g t absent))
     (parts (λ m. first_sent 0 t m q.edges) (embeddings q (with_triple g t)) 0 (length q.edges))
 
+-- an embedding lies in one class only
 pub are_apart : ClassesAreApart
 are_apart q g t m i k a b =
     same (first_sent 0 t m q.edges)
@@ -220,6 +227,7 @@ are_apart q g t m i k a b =
     same None x y = cc
     same (Some n) x y = sym (eqb-true n i x) ∙ eqb-true n k y
 
+-- it lies in one exactly where it was none before
 pub are_new : ClassesAreNew
 are_new q g t m absent c = (one, two)
   where
@@ -253,3 +261,54 @@ are_new q g t m absent c = (one, two)
 
     two : (Contains (embeddings q g) m → ⊥) → (i : ℕ) × (i < length q.edges) × Contains (edge_class q larger t i) m
     two f = pick f (first_sent 0 t m q.edges) refl
+
+-- what the triple brings to the graph without it
+pub gained_by_classes : (q : PatternGraph) (g : Graph) (t : Triple) → IsGraph g → has_triple g t ≡ true
+    → IsPermutation (gained q (without_triple g t) g) (flat_map (edge_class q g t) (range_with_len 0 (length q.edges)))
+gained_by_classes q g t graph there =
+    let back : with_triple (without_triple g t) t ≡ g = ap (λ ts. record g { triples = ts }) (put_back triple_cmp triple_total triple_exact t g.triples graph.ascending_triples there) in
+    let P : Graph → Type 0 = λ h. IsPermutation (gained q (without_triple g t) h) (flat_map (edge_class q h t) (range_with_len 0 (length q.edges))) in
+    subst P back (are_gained q (without_triple g t) t (absent_after triple_cmp triple_total t g.triples))
+
+-- ---- an edge with another label
+
+-- the number of the first edge is none below where the numbers begin
+not_below : (k i : ℕ) (t : Triple) (m : List ℕ) (es : List PatternEdge) → k < i → is_number k (first_sent i t m es) ≡ false
+not_below k i t m [] low = refl
+not_below k i t m (e ∷ es) low = by (is_sent t m e) (not_below k (i + 1) t m es (omega arith))
+  where
+    by : (b : Bool) → is_number k (first_sent (i + 1) t m es) ≡ false → is_number k (cond b (Some i) (first_sent (i + 1) t m es)) ≡ false
+    by true rest = ne_eqb i k (λ same. absurd (omega (arith, same, low)))
+    by false rest = rest
+
+-- nor that of an edge that is not sent
+not_number : (i j : ℕ) (t : Triple) (m : List ℕ) (es : List PatternEdge) (e : PatternEdge) → slice_get es j ≡ Some e → is_sent t m e ≡ false → is_number (i + j) (first_sent i t m es) ≡ false
+not_number i j t m [] e here off = absurd (none-some e here)
+not_number i zero t m (f ∷ fs) e here off =
+    let none : is_sent t m f ≡ false = ap (is_sent t m) (same_Some f e here) ∙ off in
+    subst (λ b. is_number (i + 0) (cond b (Some i) (first_sent (i + 1) t m fs)) ≡ false) (sym none) (not_below (i + 0) (i + 1) t m fs (omega arith))
+not_number i (suc j) t m (f ∷ fs) e here off = by (is_sent t m f) (not_number (i + 1) j t m fs e here off)
+  where
+    same : i + 1 + j ≡ i + suc j
+    same = omega arith
+
+    by : (b : Bool) → is_number (i + 1 + j) (first_sent (i + 1) t m fs) ≡ false → is_number (i + suc j) (cond b (Some i) (first_sent (i + 1) t m fs)) ≡ false
+    by true rest = ne_eqb i (i + suc j) (λ e. absurd (omega (arith, e)))
+    by false rest = subst (λ n. is_number n (first_sent (i + 1) t m fs) ≡ false) same rest
+
+-- an edge with another label is not sent
+not_sent : (t : Triple) (m : List ℕ) (e : PatternEdge) → bytes_eq e.label t.label ≡ false → is_sent t m e ≡ false
+not_sent t m e other =
+    false_from_ne_true (is_sent t m e) (λ sent.
+    let same = same_triple (image m e) t (equal (triple_cmp (image m e) t) sent) in
+    both_ways (bytes_eq e.label t.label) other ((bytes_eq-Decides e.label t.label).1 (ap (λ (s : Triple). s.label) same)))
+
+none_kept : {X : Type 0} (p : X → Bool) (xs : List X) → ((x : X) → p x ≡ false) → filter p xs ≡ []
+none_kept p [] off = refl
+none_kept p (x ∷ xs) off = rw (off x) (none_kept p xs off)
+
+-- the class of an edge with another label is empty
+pub other_label : OtherLabelClassIsEmpty
+other_label q g t i e here other =
+    none_kept (λ m. is_number i (first_sent 0 t m q.edges)) (embeddings q g) (λ m.
+    subst (λ n. is_number n (first_sent 0 t m q.edges) ≡ false) (omega arith) (not_number 0 i t m q.edges e here (not_sent t m e other)))

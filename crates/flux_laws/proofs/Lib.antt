@@ -8,6 +8,7 @@ pub mod FilesLemmas
 pub mod FormsLemmas
 pub mod FrontLemmas
 pub mod GraphsLemmas
+pub mod JointsLemmas
 pub mod LimitLemmas
 pub mod LinesLemmas
 pub mod ListedLemmas

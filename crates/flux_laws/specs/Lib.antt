@@ -3,6 +3,7 @@ pub mod ClassesLaws
 pub mod EmbeddingsLaws
 pub mod FilesLaws
 pub mod GraphsLaws
+pub mod JointsLaws
 pub mod LinesLaws
 pub mod PatternsLaws
 pub mod ReportsLaws

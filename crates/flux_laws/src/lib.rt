@@ -9,6 +9,7 @@
 //! - `embeddings`: which lists of ids are embeddings of a pattern in a graph, and how they stand.
 //! - `changes` and `vertices`: what an accepted update makes a pattern gain and lose.
 //! - `classes`: how the embeddings that a triple brings fall apart by the first pattern edge that is sent to it.
+//! - `joints`: changes of the graph that bring and take no joint of a pattern's tree.
 //! - `texts`: the text of a graph makes the graph again.
 //! - `reports`: how the report of updates that come in two parts is put together.
 //! - `verdicts`: a run over a graph that was saved, over a file that is refused in its front, and where a read fails.
@@ -19,6 +20,7 @@ pub mod classes;
 pub mod embeddings;
 pub mod files;
 pub mod graphs;
+pub mod joints;
 pub mod lines;
 pub mod patterns;
 pub mod reports;
