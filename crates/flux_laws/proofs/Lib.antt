@@ -2,6 +2,7 @@ pub mod AscendingLemmas
 pub mod ChangesLemmas
 pub mod ClassesLemmas
 pub mod ConnectedLemmas
+pub mod CounterExamples
 pub mod EmbeddingsLemmas
 pub mod ExactLemmas
 pub mod FilesLemmas
