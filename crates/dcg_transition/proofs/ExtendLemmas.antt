@@ -20,16 +20,18 @@ use Rattle.query_tree.specs.Depth.{depth}
 use Rattle.query_tree.proofs.CallerLemmas.{depth-below, child_once, parent_within}
 use Rattle.flux_model.specs.Members.{In}
 use Rattle.dcg_store.proofs.StateLemmas.{child_of, fits_of_reaches, full_is_extends}
-use Rattle.dcg_transition.specs.Branches.{IsBranchOf, ends, opens_from, opens_among, IsTallied}
-use Rattle.dcg_transition.specs.Ends.{whole_row, ends_of}
+use Rattle.graph_rows.specs.Branches.{IsBranchOf, ends}
+use Rattle.dcg_transition.specs.Tallies.{opens_from, opens_among, IsTallied}
+use Rattle.graph_rows.specs.Directions.{whole_row, ends_of}
 use Rattle.dcg_transition.specs.Filled.{child_counts, is_open, opens, with_more_outs, HasMoreOuts, HasRoomFor, counted_row}
 use Rattle.dcg_transition.specs.Levels.{is_after, IsCounted}
-use Rattle.dcg_transition.specs.declared.branch.Branch.{Branch}
-use Rattle.dcg_transition.proofs.JointLemmas.{count_same, ends_few, apart, joints_of_row}
-use Rattle.dcg_transition.proofs.SumLemmas.{sum_alike, once}
+use Rattle.graph_rows.specs.declared.branch.Branch.{Branch}
+use Rattle.graph_rows.proofs.CountLemmas.{count_same}
+use Rattle.graph_rows.proofs.JointLemmas.{ends_few, apart, joints_of_row}
+use Rattle.graph_rows.proofs.SumLemmas.{sum_alike, once}
 use Rattle.dcg_transition.proofs.OutLemmas.{outs_same_option, outs_twice_option}
 use Rattle.dcg_transition.proofs.LevelLemmas.{has_depths, after_other, after_here, after_not, after_deeper}
-use Rattle.dcg_transition.proofs.ReachLemmas.{implied, in_any_row, vertex_of_fits}
+use Rattle.dcg_transition.proofs.ReachLemmas.{implied, vertex_of_fits}
 
 -- ---- rows whose children are counted
 
@@ -184,8 +186,8 @@ module _ (q : PatternGraph) (t : QueryTree) (belongs : BelongsTo q t) (b : Branc
       by true = refl
       by false = refl
 
-  pub in_rows_out : (vs : List ℕ) → ((v : ℕ) → list_any (nat_eq v) vs ≡ is_some (row_at old b.link.parent v)) → (v : ℕ) → reaches from_parent b.link.parent v ≡ true → In vs v
-  in_rows_out vs rows v h = in_any_row vs v (rows v ∙ (parent_reaches v ∙ h))
+  pub in_rows_out : (vs : List ℕ) → ((v : ℕ) → list_any (nat_eq v) vs ≡ is_some (row_at old b.link.parent v)) → (v : ℕ) → reaches from_parent b.link.parent v ≡ true → list_any (nat_eq v) vs ≡ true
+  in_rows_out vs rows v h = rows v ∙ (parent_reaches v ∙ h)
 
   pub row_stands_out : (v : ℕ) → is_some (row_at old b.link.parent v) ≡ true → has_vertex g v ≡ true
   row_stands_out v some = vertex_of_fits q b.link.parent g v (fits_of_reaches from_parent (length t.links) b.link.parent v (sym (parent_reaches v) ∙ some))
@@ -197,7 +199,7 @@ module _ (q : PatternGraph) (t : QueryTree) (belongs : BelongsTo q t) (b : Branc
       ∙ ap (λ s. cond s (option_map (with_more_outs b.number (so_many vs v)) (row_at old b.link.parent v)) (row_at old b.link.parent v)) (eq-eqb b.link.parent b.link.parent refl))
       ∙ (mapped_some (with_more_outs b.number (so_many vs v)) (row_at old b.link.parent v) ∙ some)
 
-  module _ (limits : Limits) (held : IsWithinLimits limits g) (listed : List ℕ) (distinct : IsDistinct nat_eq listed) (inside : (y : ℕ) → reaches from_parent b.link.parent y ≡ true → In listed y) where
+  module _ (limits : Limits) (held : IsWithinLimits limits g) (listed : List ℕ) (distinct : IsDistinct nat_eq listed) (inside : (y : ℕ) → reaches from_parent b.link.parent y ≡ true → list_any (nat_eq y) listed ≡ true) where
     so_many-listed : (y : ℕ) → reaches from_parent b.link.parent y ≡ true → so_many listed y ≡ tally old y
     so_many-listed y reached = so_many-all listed y (once y (tally old y) listed distinct (inside y reached))
 

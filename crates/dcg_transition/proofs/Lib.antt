@@ -1,8 +1,5 @@
 pub mod LevelLemmas
 pub mod CallerLemmas
-pub mod JointLemmas
-pub mod SumLemmas
-pub mod EndLemmas
 pub mod BegunLemmas
 pub mod OutLemmas
 pub mod ReachLemmas

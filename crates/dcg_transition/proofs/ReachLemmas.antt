@@ -27,14 +27,17 @@ use Rattle.flux_model.proofs.MemberLemmas.{in_any, any_in, filter_map_in}
 use Rattle.dcg_store.proofs.ListLemmas.{some_counted}
 use Rattle.dcg_store.proofs.StateLemmas.{fits_of_reaches}
 use Rattle.dcg_store.proofs.BoundLemmas.{length-filter_map}
-use Rattle.dcg_transition.specs.Ends.{whole_row, ends_of, direction_to}
-use Rattle.dcg_transition.specs.Filled.{begun, ins_at, joins, AreBegun, HasMoreIns, counted_row}
+use Rattle.graph_rows.specs.Directions.{whole_row, ends_of, direction_to}
+use Rattle.graph_rows.specs.Branches.{joins}
+use Rattle.dcg_transition.specs.Filled.{begun, ins_at, AreBegun, HasMoreIns, counted_row}
 use Rattle.dcg_transition.specs.Levels.{is_before, IsReached}
-use Rattle.dcg_transition.specs.Branches.{IsBranchOf, ends, joins_from}
-use Rattle.dcg_transition.specs.declared.branch.Branch.{Branch}
+use Rattle.graph_rows.specs.Branches.{IsBranchOf, ends}
+use Rattle.dcg_transition.specs.Tallies.{joins_from}
+use Rattle.graph_rows.specs.declared.branch.Branch.{Branch}
 use Rattle.dcg_transition.proofs.CallerLemmas.{reaches-below}
-use Rattle.dcg_transition.proofs.JointLemmas.{count_same, ends_few, ends_down, ends_up, joints_of_row}
-use Rattle.dcg_transition.proofs.SumLemmas.{sum_alike, sum_of_joints}
+use Rattle.graph_rows.proofs.CountLemmas.{count_same}
+use Rattle.graph_rows.proofs.JointLemmas.{ends_few, ends_down, ends_up, joints_of_row}
+use Rattle.graph_rows.proofs.SumLemmas.{sum_alike, sum_of_joints}
 use Rattle.dcg_transition.proofs.BegunLemmas.{ins_of, more_twice}
 use Rattle.dcg_transition.proofs.LevelLemmas.{before_other, before_here, before_not, before_less}
 
@@ -123,9 +126,6 @@ module _ (q : PatternGraph) (t : QueryTree) (belongs : BelongsTo q t) (u : ℕ) 
   in_count_few v =
       omega (arith, in_count_link v, count_by-le-length (λ (e : Joint). e.below == v && reaches over l.parent e.above) (over.joints u), length-filter_map (joint_of q t g u) g.triples)
 
-pub in_any_row : (vs : List ℕ) (v : ℕ) → list_any (nat_eq v) vs ≡ true → In vs v
-in_any_row vs v h = let f = in_any (nat_eq v) vs h in subst (λ z. In vs z) (sym (eqb-true v f.0 f.2)) f.1
-
 in_at : (vs : List ℕ) (i : ℕ) → i < length vs → In vs (slice_index vs i)
 in_at [] i within = absurd (omega (arith, within))
 in_at (v ∷ vs) zero within = inl refl
@@ -183,14 +183,14 @@ module _ (q : PatternGraph) (t : QueryTree) (belongs : BelongsTo q t) (b : Branc
       by false r = refl
 
   -- the vertices that have a row with the parent are those that it reaches
-  pub in_rows : (vs : List ℕ) → ((v : ℕ) → list_any (nat_eq v) vs ≡ is_some (row_at old b.link.parent v)) → (v : ℕ) → reaches to_child b.link.parent v ≡ true → In vs v
-  in_rows vs rows v h = in_any_row vs v (rows v ∙ (parent_reaches v ∙ h))
+  pub in_rows : (vs : List ℕ) → ((v : ℕ) → list_any (nat_eq v) vs ≡ is_some (row_at old b.link.parent v)) → (v : ℕ) → reaches to_child b.link.parent v ≡ true → list_any (nat_eq v) vs ≡ true
+  in_rows vs rows v h = rows v ∙ (parent_reaches v ∙ h)
 
   -- and they are vertices of the graph
   pub row_stands : (v : ℕ) → is_some (row_at old b.link.parent v) ≡ true → has_vertex g v ≡ true
   row_stands v some = vertex_of_fits q b.link.parent g v (fits_of_reaches to_child (length t.links) b.link.parent v (sym (parent_reaches v) ∙ some))
 
-  module _ (limits : Limits) (held : IsWithinLimits limits g) (listed : List ℕ) (distinct : IsDistinct nat_eq listed) (inside : (v : ℕ) → reaches to_child b.link.parent v ≡ true → In listed v) where
+  module _ (limits : Limits) (held : IsWithinLimits limits g) (listed : List ℕ) (distinct : IsDistinct nat_eq listed) (inside : (v : ℕ) → reaches to_child b.link.parent v ≡ true → list_any (nat_eq v) listed ≡ true) where
     -- from all that the parent reaches as many joints lead in as there are
     from_listed : (w : ℕ) → sum_by (joins_from old b g w) listed ≡ in_count to_child b.child w
     from_listed w =

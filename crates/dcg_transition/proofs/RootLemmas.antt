@@ -22,14 +22,13 @@ use Rattle.query_tree.specs.Depth.{depth}
 use Rattle.query_tree.proofs.CallerLemmas.{depth-root}
 use Rattle.dcg_store.specs.Moves.{in_raised}
 use Rattle.dcg_store.proofs.StateLemmas.{inside_of_reaches}
-use Rattle.dcg_store.proofs.BoundLemmas.{fits-id}
 use Rattle.dcg_transition.specs.Filled.{child_counts, begun, ins_at, AreBegun, HasMoreIns, counted_row}
 use Rattle.dcg_transition.specs.Levels.{is_before, IsReached, IsCounted}
 use Rattle.dcg_transition.proofs.CallerLemmas.{reaches-root}
-use Rattle.dcg_transition.proofs.SumLemmas.{sum_alike, sum_nothing, once, distinct_ids}
+use Rattle.graph_rows.proofs.SumLemmas.{sum_alike, sum_nothing, once, distinct_ids, listed_id}
 use Rattle.dcg_transition.proofs.BegunLemmas.{ins_of, ins_is, more_twice, more_alike, one_more}
 use Rattle.dcg_transition.proofs.LevelLemmas.{depth-not_root, before_first}
-use Rattle.dcg_transition.proofs.ReachLemmas.{no_child, begun_row}
+use Rattle.dcg_transition.proofs.ReachLemmas.{no_child, begun_row, vertex_of_fits}
 
 -- ---- of distinct vertices one is counted once
 
@@ -145,7 +144,7 @@ module _ (q : PatternGraph) (t : QueryTree) (belongs : BelongsTo q t) (g : Graph
         all w =
             let taken = ap (count_by (fitting w)) (take_all i listed long) in
             let over_ids = sum_by-IsPermutation (λ v. cond (fitting w v) 1 0) listed (ids g) each in
-            let one = counted_once (λ v. fits_labels g labels v) w (ids g) (λ b. once w 1 (ids g) (distinct_ids g held.graph) (fits-id q t.root g w (fits_root w ∙ b))) in
+            let one = counted_once (λ v. fits_labels g labels v) w (ids g) (λ b. once w 1 (ids g) (distinct_ids g held.graph) (sym (listed_id g w) ∙ vertex_of_fits q t.root g w (fits_root w ∙ b))) in
             omega (arith, grown.ins w, no_ins t.root w, taken, over_ids, one)
 
         width : slice_index new.children t.root ≡ length (children t t.root)

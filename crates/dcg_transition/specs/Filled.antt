@@ -40,10 +40,6 @@ pub record HasMoreIns (u : ℕ) (more : ℕ → ℕ) (old new : StateRows) : Typ
   pub begun : AreBegun new u
   pub ins : (v : ℕ) → ins_at new u v ≡ ins_at old u v + more v
 
--- whether the end x makes a joint to w, where the child has these labels
-abbrev pub joins : Graph → List (List ℕ) → ℕ → ℕ → Bool
-joins g labels w x = fits_labels g labels x && x == w
-
 -- ---- rows with some out counters raised
 
 -- whether there is a row whose out counters are all at least 1

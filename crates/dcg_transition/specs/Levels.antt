@@ -9,11 +9,11 @@ use Rattle.flux_model.specs.Exact.{StateRows, row_at}
 use Rattle.query_tree.specs.Depth.{depth}
 use Rattle.dcg_transition.specs.Filled.{child_counts, counted_row}
 
--- c is less deep than the level, or as deep and below u
+-- c is less deep than the level, or it is on the level and its number is below u
 abbrev pub is_before : QueryTree → ℕ → ℕ → ℕ → Bool
 is_before t level u c = nat_lt (depth t c) level || depth t c == level && nat_lt c u
 
--- c is deeper than the level, or as deep and below u
+-- c is deeper than the level, or it is on the level and its number is below u
 abbrev pub is_after : QueryTree → ℕ → ℕ → ℕ → Bool
 is_after t level u c = nat_lt level (depth t c) || depth t c == level && nat_lt c u
 

@@ -1,4 +1,3 @@
-pub mod Branches
-pub mod Ends
 pub mod Filled
 pub mod Levels
+pub mod Tallies

@@ -7,13 +7,13 @@ ghost use Rattle.flux_model.specs.States.{joined};
 ghost use Rattle.flux_model.specs.Exact.{row_at, IsExact};
 ghost use Rattle.graph_traits.specs.Numbers.{IsNumberOf};
 ghost use Rattle.query_tree.specs.Depth.{depth};
-ghost use Rattle.dcg_transition.specs.Branches.{opens_from};
+ghost use Rattle.dcg_transition.specs.Tallies.{opens_from};
 ghost use Rattle.dcg_transition.specs.Filled.{is_open, HasMoreOuts, HasRoomFor};
 ghost use Rattle.dcg_transition.specs.Levels.{depths_of, IsCounted, IsCountedTo};
 
-use crate::branch::Branch;
 use dcg_store::Dcg;
 use flux_model::{Ledger, Pattern, State, Steps};
+use graph_rows::Branch;
 use graph_traits::{HoldGraph, ReadGraph};
 use query_tree::QueryTree;
 use std::alloc::{AllocError, Global};

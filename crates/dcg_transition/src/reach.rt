@@ -6,13 +6,14 @@ ghost use Rattle.flux_model.specs.Tree.{BelongsTo};
 ghost use Rattle.flux_model.specs.States.{joined};
 ghost use Rattle.graph_traits.specs.Numbers.{IsNumberOf};
 ghost use Rattle.query_tree.specs.Depth.{depth};
-ghost use Rattle.dcg_transition.specs.Branches.{joins_to, HasRoomToJoin};
+ghost use Rattle.graph_rows.specs.Branches.{joins_to};
+ghost use Rattle.dcg_transition.specs.Tallies.{HasRoomToJoin};
 ghost use Rattle.dcg_transition.specs.Filled.{child_counts, AreBegun, HasMoreIns};
 ghost use Rattle.dcg_transition.specs.Levels.{depths_of, IsReachedTo, IsCounted};
 
-use crate::branch::Branch;
 use dcg_store::Dcg;
 use flux_model::{Ledger, Pattern, Steps};
+use graph_rows::Branch;
 use graph_traits::{HoldGraph, ReadGraph};
 use query_tree::QueryTree;
 use std::alloc::{AllocError, Global};

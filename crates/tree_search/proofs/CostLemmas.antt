@@ -22,9 +22,9 @@ use Rattle.flux_model.specs.Members.{In, AreOnce}
 use Rattle.flux_model.proofs.MemberLemmas.{once_permutation, once_by_place, in_by_place, place_of, range_in, in_range, range_once}
 use Rattle.match_order.specs.Whole.{vertices}
 use Rattle.match_order.proofs.CallerLemmas.{place_of_vertex, vertex_within, one_place}
-use Rattle.dcg_transition.specs.Ends.{whole_row, ends_of}
-use Rattle.dcg_transition.specs.declared.direction.Direction.{Direction}
-use Rattle.dcg_transition.specs.declared.direction.Direction.TheVariants.{Out, In as Inward}
+use Rattle.graph_rows.specs.Directions.{whole_row, ends_of}
+use Rattle.graph_rows.specs.declared.direction.Direction.{Direction}
+use Rattle.graph_rows.specs.declared.direction.Direction.TheVariants.{Out, In as Inward}
 use Rattle.tree_search.specs.Given.{IsReady, IsGiven, IsRowAt, nth_vertex, nth_anchor, may_have}
 use Rattle.tree_search.specs.Members.{members_from, members_over}
 use Rattle.tree_search.specs.SearchCosts.{MeetsNoDeadEnd, test_cost, cost_from, members_cost}

@@ -18,9 +18,9 @@ use Rattle.flux_laws.proofs.AscendingLemmas.{below_rest, tail_ascending, filter-
 use Rattle.flux_laws.proofs.SetsLemmas.{triple_total}
 use Rattle.flux_model.specs.Members.{In}
 use Rattle.flux_model.proofs.MemberLemmas.{filter_in, in_filter, mapped_in, in_mapped, in_permutation, in_permutation_back}
-use Rattle.dcg_transition.specs.Ends.{whole_row, triple_of, other_end, ends_of}
-use Rattle.dcg_transition.specs.declared.direction.Direction.{Direction}
-use Rattle.dcg_transition.specs.declared.direction.Direction.TheVariants.{Out, In as Inward}
+use Rattle.graph_rows.specs.Directions.{whole_row, triple_of, other_end, ends_of}
+use Rattle.graph_rows.specs.declared.direction.Direction.{Direction}
+use Rattle.graph_rows.specs.declared.direction.Direction.TheVariants.{Out, In as Inward}
 use Rattle.tree_search.proofs.EmbeddingLemmas.{triple_in, in_triple}
 
 -- ---- lists

@@ -22,9 +22,9 @@ use Rattle.match_order.proofs.LinkLemmas.{anchor_is}
 use Rattle.nontree_test.proofs.CallerLemmas.{keeps_mode_at_start, keeps_non_tree_at_start, keeps_mode_with, keeps_non_tree_with}
 use Rattle.query_tree.specs.Depth.{depth}
 use Rattle.query_tree.proofs.CallerLemmas.{link_within, parent_within, is_child_of, depth-below}
-use Rattle.dcg_transition.specs.Ends.{whole_row, triple_of, ends_of, direction_to}
-use Rattle.dcg_transition.specs.declared.direction.Direction.{Direction}
-use Rattle.dcg_transition.specs.declared.direction.Direction.TheVariants.{Out, In as Inward}
+use Rattle.graph_rows.specs.Directions.{whole_row, triple_of, ends_of, direction_to}
+use Rattle.graph_rows.specs.declared.direction.Direction.{Direction}
+use Rattle.graph_rows.specs.declared.direction.Direction.TheVariants.{Out, In as Inward}
 use Rattle.tree_search.specs.Given.{IsReady, IsGiven, IsRowAt, nth_vertex, nth_anchor, may_have, edge_of, edge_between}
 use Rattle.tree_search.specs.Members.{members_from, members_over, GrewUpTo}
 use Rattle.tree_search.proofs.GrowthLemmas.{grew_none}

@@ -27,8 +27,8 @@ use Rattle.match_order.specs.Whole.{vertices}
 use Rattle.match_order.proofs.CallerLemmas.{HangsFrom, vertex_within, one_place, anchor_before, anchor_joined}
 use Rattle.query_tree.specs.Depth.{depth}
 use Rattle.query_tree.proofs.CallerLemmas.{is_child_of, depth-below, depth-small}
-use Rattle.dcg_transition.specs.Ends.{triple_of, direction_to}
-use Rattle.dcg_transition.specs.declared.direction.Direction.TheVariants.{Out, In as Inward}
+use Rattle.graph_rows.specs.Directions.{triple_of, direction_to}
+use Rattle.graph_rows.specs.declared.direction.Direction.TheVariants.{Out, In as Inward}
 use Rattle.tree_search.specs.Given.{IsReady, IsGiven, IsRowAt, nth_vertex, nth_anchor, may_have, edge_between}
 use Rattle.tree_search.specs.Members.{members_from, ids_of}
 use Rattle.tree_search.specs.SearchCosts.{MeetsNoDeadEnd}

@@ -26,8 +26,8 @@ use Rattle.flux_laws.proofs.SetsLemmas.{vertex_total}
 use Rattle.flux_model.specs.Members.{In}
 use Rattle.flux_model.proofs.MemberLemmas.{in_any, mapped_in, in_mapped, in_permutation}
 use Rattle.match_order.specs.Whole.{vertices}
-use Rattle.dcg_transition.specs.Ends.{whole_row, triple_of, ends_of}
-use Rattle.dcg_transition.specs.declared.direction.Direction.{Direction}
+use Rattle.graph_rows.specs.Directions.{whole_row, triple_of, ends_of}
+use Rattle.graph_rows.specs.declared.direction.Direction.{Direction}
 use Rattle.tree_search.specs.Given.{IsReady, IsGiven, IsRowAt, nth_vertex, may_have}
 use Rattle.tree_search.specs.Members.{members_from, members_over, GrewUpTo, GrewByAll, GrewBySome}
 use Rattle.tree_search.proofs.GrowthLemmas.{grew_none, grew_all, grew_turn, grew_skip, grew_stop}

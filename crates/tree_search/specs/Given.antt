@@ -9,8 +9,8 @@ use Rattle.flux_model.specs.Order.{SearchOrder}
 use Rattle.flux_model.specs.Partial.{id_of, joins, is_free, stands_where_given, keeps_non_tree, keeps_mode_where_given}
 use Rattle.flux_model.specs.declared.tree.TreeLink.{TreeLink}
 use Rattle.match_order.specs.Whole.{vertices, anchors, IsOrderOf}
-use Rattle.dcg_transition.specs.declared.direction.Direction.{Direction}
-use Rattle.dcg_transition.specs.Ends.{direction_to}
+use Rattle.graph_rows.specs.declared.direction.Direction.{Direction}
+use Rattle.graph_rows.specs.Directions.{direction_to}
 
 -- what a search is about
 pub record IsReady (q : PatternGraph) (t : QueryTree) (d : StateRows) (g : Graph) (o : SearchOrder) : Type 0 where

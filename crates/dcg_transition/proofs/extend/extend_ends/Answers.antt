@@ -1,11 +1,11 @@
 use Rattle.std.proofs.Common.{◌≡◌, ◌+◌, true, refl, subst, ◌∙◌, arith}
 use Rattle.std.specs.Prelude.{count_by}
 use Rattle.flux_model.specs.Exact.{row_at}
-use Rattle.dcg_transition.specs.Branches.{ends}
-use Rattle.dcg_transition.specs.Ends.{row_from, ends_from}
+use Rattle.graph_rows.specs.Branches.{ends}
+use Rattle.graph_rows.specs.LabelRows.{row_from, ends_from}
 use Rattle.dcg_transition.specs.Filled.{opens, HasMoreOuts}
-use Rattle.dcg_transition.proofs.EndLemmas.{late, not_last, none_late}
-use Rattle.dcg_transition.proofs.JointLemmas.{count_row}
+use Rattle.graph_rows.proofs.RestLemmas.{late, not_last, none_late}
+use Rattle.graph_rows.proofs.JointLemmas.{count_row}
 use Rattle.dcg_transition.proofs.OutLemmas.{outs_unchanged, outs_raised, opens_before, outs_here, wide_enough, has_room}
 use Rattle.dcg_transition.proofs.extend.extend_ends.Goals as goal
 

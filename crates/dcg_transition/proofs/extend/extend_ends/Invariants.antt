@@ -1,6 +1,6 @@
 use Rattle.std.proofs.Common.{◌≡◌, ℕ, ◌+◌, length}
 use Rattle.std.specs.Prelude.{count_by}
-use Rattle.dcg_transition.specs.Ends.{row_from, ends_from, IsPlaceOf}
+use Rattle.graph_rows.specs.LabelRows.{row_from, ends_from, IsPlaceOf}
 use Rattle.dcg_transition.specs.Filled.{opens, HasMoreOuts}
 use Rattle.dcg_transition.proofs.extend.extend_ends.Given as goal
 

@@ -6,7 +6,7 @@ use Rattle.flux_model.specs.Exact.{row_at}
 use Rattle.flux_model.specs.States.{joined}
 use Rattle.query_tree.specs.Depth.{depth}
 use Rattle.query_tree.proofs.CallerLemmas.{link_within, parent_within}
-use Rattle.dcg_transition.specs.Branches.{opens_from}
+use Rattle.dcg_transition.specs.Tallies.{opens_from}
 use Rattle.dcg_transition.specs.Filled.{HasRoomFor}
 use Rattle.dcg_transition.specs.Levels.{is_after, IsCounted}
 use Rattle.dcg_transition.proofs.LevelLemmas.{length-child_counts}

@@ -1,5 +1,5 @@
 use Rattle.std.proofs.Common.{take}
-use Rattle.dcg_transition.specs.Branches.{IsTallied}
+use Rattle.dcg_transition.specs.Tallies.{IsTallied}
 use Rattle.dcg_transition.proofs.extend.extend_to.Given as goal
 
 -- the joints from the vertices before the index are counted

@@ -1,10 +1,10 @@
 use Rattle.std.proofs.Common.{◌≡◌, ◌+◌, true, cond, ◌==◌, refl, ◌∙◌, eq-eqb, arith}
 use Rattle.std.specs.Prelude.{count_by}
-use Rattle.dcg_transition.specs.Ends.{row_from, ends_from}
-use Rattle.dcg_transition.specs.Filled.{joins}
+use Rattle.graph_rows.specs.LabelRows.{row_from, ends_from}
+use Rattle.graph_rows.specs.Branches.{joins}
 use Rattle.dcg_transition.proofs.BegunLemmas.{ins_is, none_more, more_alike, more_twice, one_more}
-use Rattle.dcg_transition.proofs.EndLemmas.{joins_one, late, not_last, none_late}
-use Rattle.dcg_transition.proofs.JointLemmas.{count_row}
+use Rattle.graph_rows.proofs.RestLemmas.{joins_one, late, not_last, none_late}
+use Rattle.graph_rows.proofs.JointLemmas.{count_row}
 use Rattle.dcg_transition.proofs.reach.reach_ends.Goals as goal
 
 pub loop-w-init : goal.loop-w-init

@@ -1,7 +1,8 @@
 use Rattle.std.proofs.Common.{◌≡◌, ℕ, ◌+◌, length}
 use Rattle.std.specs.Prelude.{count_by}
-use Rattle.dcg_transition.specs.Ends.{row_from, ends_from, IsPlaceOf}
-use Rattle.dcg_transition.specs.Filled.{joins, HasMoreIns}
+use Rattle.graph_rows.specs.LabelRows.{row_from, ends_from, IsPlaceOf}
+use Rattle.graph_rows.specs.Branches.{joins}
+use Rattle.dcg_transition.specs.Filled.{HasMoreIns}
 use Rattle.dcg_transition.proofs.reach.reach_ends.Given as goal
 
 -- so many joints lead to each vertex so far, and with those to come as many as the row has

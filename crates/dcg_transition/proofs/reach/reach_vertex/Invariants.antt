@@ -1,6 +1,6 @@
 use Rattle.std.proofs.Common.{take}
 use Rattle.std.specs.List.{sum_by}
-use Rattle.dcg_transition.specs.Branches.{joins_from}
+use Rattle.dcg_transition.specs.Tallies.{joins_from}
 use Rattle.dcg_transition.specs.Filled.{HasMoreIns}
 use Rattle.dcg_transition.proofs.reach.reach_vertex.Given as goal
 

@@ -2,7 +2,8 @@ use Rattle.std.proofs.Common.{rules, ◌+◌, ◌<◌, ◌≤◌, length, refl, 
 use Rattle.std.proofs.lemmas.Result.{on_ok_weaker, on_err_weaker}
 use Rattle.flux_model.specs.Graph.{has_triple}
 use Rattle.match_order.specs.Whole.{vertices}
-use Rattle.dcg_transition.specs.Ends.{row_from, triple_of, ends_from}
+use Rattle.graph_rows.specs.Directions.{triple_of}
+use Rattle.graph_rows.specs.LabelRows.{row_from, ends_from}
 use Rattle.tree_search.specs.Members.{members_from, ids_of}
 use Rattle.tree_search.proofs.GrowthLemmas.{grew_one, grew_by_none, any_err}
 use Rattle.tree_search.proofs.EndLemmas.{end_stands}

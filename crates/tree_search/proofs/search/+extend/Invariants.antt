@@ -3,7 +3,8 @@ use Rattle.std.specs.List.{sum_by}
 use Rattle.flux_model.specs.Graph.{has_triple}
 use Rattle.flux_model.specs.Members.{In}
 use Rattle.match_order.specs.Whole.{vertices}
-use Rattle.dcg_transition.specs.Ends.{row_from, triple_of, ends_from, IsPlaceOf}
+use Rattle.graph_rows.specs.Directions.{triple_of}
+use Rattle.graph_rows.specs.LabelRows.{row_from, ends_from, IsPlaceOf}
 use Rattle.tree_search.specs.Members.{members_from, members_over, GrewUpTo}
 use Rattle.tree_search.specs.SearchCosts.{MeetsNoDeadEnd, cost_from, members_cost}
 use Rattle.tree_search.proofs.search.+extend.Given as goal

@@ -7,7 +7,7 @@ use Rattle.flux_model.specs.Order.{are_neighbours}
 use Rattle.flux_model.specs.Tree.{edge_at}
 use Rattle.flux_model.specs.declared.pattern.PatternEdge.{PatternEdge}
 use Rattle.graph_traits.specs.Numbers.{IsNumberOf}
-use Rattle.dcg_transition.specs.Ends.{direction_to}
+use Rattle.graph_rows.specs.Directions.{direction_to}
 use Rattle.tree_search.specs.Given.{nth_vertex, nth_anchor, edge_between}
 use Rattle.tree_search.proofs.TieLemmas.{anchor_inside, anchor_beside, anchor_given}
 use Rattle.tree_search.proofs.search.row_at.Goals as goal

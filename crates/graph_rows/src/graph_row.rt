@@ -3,7 +3,8 @@ ghost use Rattle.std.specs.Prelude.{◌≡◌, ◌+◌, ◌<◌, ◌≤◌, [], 
 ghost use Rattle.std.specs.Str.{bytes_eq};
 ghost use Rattle.flux_model.specs.Graph.{has_vertex};
 ghost use Rattle.graph_traits.specs.Numbers.{IsNumberOf};
-ghost use Rattle.dcg_transition.specs.Ends.{triple_of, whole_row, row_from, ends_from, IsPlaceOf};
+ghost use Rattle.graph_rows.specs.Directions.{triple_of, whole_row};
+ghost use Rattle.graph_rows.specs.LabelRows.{row_from, ends_from, IsPlaceOf};
 
 use crate::direction::Direction;
 use flux_model::{Ledger, Steps, Text};

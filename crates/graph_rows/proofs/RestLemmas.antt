@@ -5,7 +5,7 @@ use Rattle.std.specs.Cmp.{nat_eq_equiv}
 use Rattle.std.proofs.lemmas.List.Sums.{sum_by-cons}
 use Rattle.flux_model.specs.Graph.{Graph}
 use Rattle.flux_model.specs.Pattern.{fits_labels}
-use Rattle.dcg_transition.specs.Filled.{joins}
+use Rattle.graph_rows.specs.Branches.{joins}
 
 -- ---- one end
 

@@ -1,62 +1,59 @@
 -- Sums over the vertices of a graph.
-use Rattle.std.proofs.Common.{◌≡◌, ℕ, ◌+◌, ◌<◌, Bool, true, false, cond, ◌&&◌, ◌==◌, List, [], ◌∷◌, inl, inr, refl, sym, ap, ◌∙◌, subst, arith}
+use Rattle.std.proofs.Common.{◌≡◌, ℕ, ◌+◌, ◌<◌, Bool, true, false, cond, ◌&&◌, ◌||◌, ◌==◌, List, [], ◌∷◌, refl, sym, ap, ◌∙◌, subst, arith}
 use Rattle.std.specs.Prelude.{map, count_by, nat_eq}
-use Rattle.std.specs.List.{sum_by, AllByRecursion, IsDistinct}
+use Rattle.std.specs.List.{sum_by, list_any, AllByRecursion, IsDistinct}
+use Rattle.std.specs.Cmp.{nat_eq_equiv}
 use Rattle.std.specs.declared.cmp.Ordering.{Ordering}
 use Rattle.std.specs.declared.cmp.Ordering.TheVariants.{Less, Equal, Greater}
 use Rattle.std.specs.Ordering.{nat_cmp, is_lt}
-use Rattle.std.proofs.lemmas.Bool.{and_parts, eqb-true, eq-eqb, ne_eqb}
+use Rattle.std.proofs.lemmas.Bool.{and_parts, eqb-true, ne_eqb}
 use Rattle.std.proofs.lemmas.List.Sums.{sum_by-cons}
 use Rattle.std.proofs.lemmas.Cmp.{ranked}
-use Rattle.flux_model.specs.Graph.{Graph, IsGraph, ids, vertex_cmp}
+use Rattle.flux_model.specs.Graph.{Graph, IsGraph, ids, has_vertex, vertex_cmp}
 use Rattle.flux_model.specs.Ordered.{is_ascending}
 use Rattle.flux_model.specs.States.{Joint}
 use Rattle.flux_model.specs.declared.graph.Vertex.{Vertex}
-use Rattle.flux_model.specs.Members.{In}
 
 -- ---- sums
 
+-- of numbers that are alike
 pub sum_alike : {X : Type 0} (f h : X → ℕ) (xs : List X) → ((x : X) → f x ≡ h x) → sum_by f xs ≡ sum_by h xs
 sum_alike f h xs e = λ i. sum_by (λ x. e x i) xs
 
-sum_both : {X : Type 0} (f h : X → ℕ) (xs : List X) → sum_by (λ x. f x + h x) xs ≡ sum_by f xs + sum_by h xs
+-- of numbers that are added
+pub sum_both : {X : Type 0} (f h : X → ℕ) (xs : List X) → sum_by (λ x. f x + h x) xs ≡ sum_by f xs + sum_by h xs
 sum_both f h [] = omega arith
 sum_both f h (x ∷ xs) =
     omega (arith, sum_by-cons (λ y. f y + h y) x xs, sum_by-cons f x xs, sum_by-cons h x xs, sum_both f h xs)
 
+-- of nothing but 0
 pub sum_nothing : {X : Type 0} (f : X → ℕ) (xs : List X) → ((x : X) → f x ≡ 0) → sum_by f xs ≡ 0
 sum_nothing f [] none = refl
 sum_nothing f (x ∷ xs) none = omega (arith, sum_by-cons f x xs, none x, sum_nothing f xs none)
 
 -- ---- one of distinct numbers
 
+-- a number that is not in the list
 nowhere : (x n : ℕ) (vs : List ℕ) → AllByRecursion (λ y. nat_eq x y ≡ false) vs → sum_by (λ v. cond (x == v) n 0) vs ≡ 0
 nowhere x n [] h = refl
 nowhere x n (v ∷ vs) h =
     let here : cond (x == v) n 0 ≡ 0 = ap (λ b. cond b n 0) h.0 in
     omega (arith, sum_by-cons (λ v. cond (x == v) n 0) v vs, here, nowhere x n vs h.1)
 
-pub once : (x n : ℕ) (vs : List ℕ) → IsDistinct nat_eq vs → In vs x → sum_by (λ v. cond (x == v) n 0) vs ≡ n
+-- a number that is in the list stands there once
+pub once : (x n : ℕ) (vs : List ℕ) → IsDistinct nat_eq vs → list_any (nat_eq x) vs ≡ true → sum_by (λ v. cond (x == v) n 0) vs ≡ n
 unfolding IsDistinct
-once x n [] distinct m = absurd m
-once x n (v ∷ vs) distinct m =
-    elim m [
-      | inl same ↦
-          let here : cond (x == v) n 0 ≡ n = ap (λ b. cond b n 0) (eq-eqb x v same) in
-          let others : AllByRecursion (λ y. nat_eq x y ≡ false) vs = subst (λ z. AllByRecursion (λ y. nat_eq z y ≡ false) vs) (sym same) distinct.0 in
-          omega (arith, sum_by-cons (λ v. cond (x == v) n 0) v vs, here, nowhere x n vs others)
-      | inr later ↦
-          let here : cond (x == v) n 0 ≡ 0 = ap (λ b. cond b n 0) (other later (x == v) refl) in
-          omega (arith, sum_by-cons (λ v. cond (x == v) n 0) v vs, here, once x n vs distinct.1 later)
-    ]
+once x n [] distinct m = cc
+once x n (v ∷ vs) distinct m = by (x == v) refl (once x n vs distinct.1)
   where
-    stands : (z : ℕ) (ws : List ℕ) → AllByRecursion (λ y. nat_eq z y ≡ false) ws → In ws z → ⊥
-    stands z [] h m = m
-    stands z (w ∷ ws) h m = elim m [ inl same ↦ (let bad : true ≡ false = sym (eq-eqb z w same) ∙ h.0 in absurd cc) | inr m ↦ stands z ws h.1 m ]
-
-    other : In vs x → (b : Bool) → (x == v) ≡ b → b ≡ false
-    other later false e = refl
-    other later true e = absurd (stands v vs distinct.0 (subst (λ z. In vs z) (eqb-true x v e) later))
+    by : (b : Bool) → (x == v) ≡ b → (list_any (nat_eq x) vs ≡ true → sum_by (λ w. cond (x == w) n 0) vs ≡ n) → sum_by (λ w. cond (x == w) n 0) (v ∷ vs) ≡ n
+    by true e later =
+        let here : cond (x == v) n 0 ≡ n = ap (λ b. cond b n 0) e in
+        let others : AllByRecursion (λ y. nat_eq x y ≡ false) vs = subst (λ z. AllByRecursion (λ y. nat_eq z y ≡ false) vs) (sym (eqb-true x v e)) distinct.0 in
+        omega (arith, sum_by-cons (λ w. cond (x == w) n 0) v vs, here, nowhere x n vs others)
+    by false e later =
+        let here : cond (x == v) n 0 ≡ 0 = ap (λ b. cond b n 0) e in
+        omega (arith, sum_by-cons (λ w. cond (x == w) n 0) v vs, here, later (ap (λ b. b || list_any (nat_eq x) vs) (sym e) ∙ m))
 
 -- ---- the ids of a graph are distinct
 
@@ -82,12 +79,22 @@ distinct_vertices (v ∷ w ∷ ws) h =
     let parts = and_parts (is_lt (nat_cmp v.id w.id)) (is_ascending vertex_cmp (w ∷ ws)) h in
     (above_all w ws parts.1 v.id (lower v.id w.id parts.0), distinct_vertices (w ∷ ws) parts.1)
 
+-- no two vertices have the same id
 pub distinct_ids : (g : Graph) → IsGraph g → IsDistinct nat_eq (ids g)
 distinct_ids g is = distinct_vertices g.vertices is.ascending_vertices
 
+-- ---- a vertex is one whose id is listed
+
+listed_id_in : (v : ℕ) (vs : List Vertex) → list_any (λ (w : Vertex). w.id == v) vs ≡ list_any (nat_eq v) (map (λ (w : Vertex). w.id) vs)
+listed_id_in v [] = refl
+listed_id_in v (w ∷ ws) = λ i. nat_eq_equiv.symm w.id v i || listed_id_in v ws i
+
+pub listed_id : (g : Graph) (v : ℕ) → has_vertex g v ≡ list_any (nat_eq v) (ids g)
+listed_id g v = listed_id_in v g.vertices
+
 -- ---- joints by their upper ends
 
-module _ (r : ℕ → Bool) (w : ℕ) (vs : List ℕ) (distinct : IsDistinct nat_eq vs) (all : (x : ℕ) → r x ≡ true → In vs x) where
+module _ (r : ℕ → Bool) (w : ℕ) (vs : List ℕ) (distinct : IsDistinct nat_eq vs) (all : (x : ℕ) → r x ≡ true → list_any (nat_eq x) vs ≡ true) where
   -- whether a joint leads from v to w
   abbrev leads : ℕ → Joint → Bool
   leads v e = e.above == v && e.below == w

@@ -1,11 +1,11 @@
 -- The joints that a graph vertex has on a tree edge are the ends of its row that fit.
 use Rattle.std.proofs.Common.{◌≡◌, ◌≢◌, ℕ, ◌+◌, ◌≤◌, Bool, true, false, cond, ◌&&◌, ◌==◌, List, [], ◌∷◌, length, inl, inr, refl, sym, ap, ◌∙◌, arith}
-use Rattle.std.specs.Prelude.{◌⊎◌, Option, None, Some, map, filter, count_by, IsPermutation}
-use Rattle.std.specs.List.{filter_map, cons_option}
+use Rattle.std.specs.Prelude.{◌⊎◌, Some, filter, count_by, IsPermutation}
+use Rattle.std.specs.List.{filter_map}
 use Rattle.std.specs.Str.{bytes_eq}
 use Rattle.std.proofs.lemmas.Bool.{and_parts, or_cases, eqb-true}
 use Rattle.std.proofs.lemmas.List.{length-map}
-use Rattle.std.proofs.lemmas.List.Sums.{sum_by-cons, length-filter, count_by-le-length}
+use Rattle.std.proofs.lemmas.List.Sums.{length-filter, count_by-le-length}
 use Rattle.std.proofs.lemmas.List.Sorted.{sum_by-IsPermutation}
 use Rattle.flux_model.specs.Graph.{Graph}
 use Rattle.flux_model.specs.Pattern.{PatternGraph, fits}
@@ -16,56 +16,17 @@ use Rattle.flux_model.specs.declared.pattern.PatternEdge.{PatternEdge}
 use Rattle.flux_model.specs.declared.tree.TreeLink.{TreeLink}
 use Rattle.query_tree.specs.Depth.{depth}
 use Rattle.query_tree.proofs.CallerLemmas.{depth-below}
-use Rattle.dcg_transition.specs.Branches.{ends, row_along}
-use Rattle.dcg_transition.specs.Ends.{whole_row, other_end, ends_of, direction_to}
-use Rattle.dcg_transition.specs.declared.branch.Branch.{Branch}
-use Rattle.dcg_transition.specs.declared.direction.Direction.{Direction}
-use Rattle.dcg_transition.specs.declared.direction.Direction.TheVariants.{Out, In}
-use Rattle.dcg_transition.specs.declared.graph_row.GraphRow.{GraphRow}
-
--- ---- counts over lists that are made of others
-
-pub count_same : {X : Type 0} (p r : X → Bool) (xs : List X) → ((x : X) → p x ≡ r x) → count_by p xs ≡ count_by r xs
-count_same p r xs h = λ i. count_by (λ x. h x i) xs
-
--- whether there is a value, and it passes
-abbrev pub passes : {Y : Type 0} → (Y → Bool) → Option Y → Bool
-passes p None = false
-passes p (Some y) = p y
-
-count-cons_option : {Y : Type 0} (p : Y → Bool) (o : Option Y) (ys : List Y) → count_by p (cons_option o ys) ≡ cond (passes p o) 1 0 + count_by p ys
-count-cons_option p None ys = omega arith
-count-cons_option p (Some y) ys = sum_by-cons (λ z. cond (p z) 1 0) y ys
-
-count-filter_map : {X Y : Type 0} (p : Y → Bool) (f : X → Option Y) (xs : List X) → count_by p (filter_map f xs) ≡ count_by (λ x. passes p (f x)) xs
-count-filter_map p f [] = refl
-count-filter_map p f (x ∷ xs) =
-    count-cons_option p (f x) (filter_map f xs)
-    ∙ ap (λ n. cond (passes p (f x)) 1 0 + n) (count-filter_map p f xs)
-    ∙ sym (sum_by-cons (λ z. cond (passes p (f z)) 1 0) x xs)
-
-count-map : {X Y : Type 0} (p : Y → Bool) (f : X → Y) (xs : List X) → count_by p (map f xs) ≡ count_by (λ x. p (f x)) xs
-count-map p f [] = refl
-count-map p f (x ∷ xs) =
-    sum_by-cons (λ z. cond (p z) 1 0) (f x) (map f xs) ∙ ap (λ n. cond (p (f x)) 1 0 + n) (count-map p f xs) ∙ sym (sum_by-cons (λ z. cond (p (f z)) 1 0) x xs)
-
-count-filter : {X : Type 0} (p r : X → Bool) (xs : List X) → count_by p (filter r xs) ≡ count_by (λ x. r x && p x) xs
-count-filter p r [] = refl
-count-filter p r (x ∷ xs) =
-    elim (r x) as (λ b. count_by p (cond b (x ∷ filter r xs) (filter r xs)) ≡ cond (b && p x) 1 0 + count_by (λ z. r z && p z) xs) [
-      | true ↦ sum_by-cons (λ z. cond (p z) 1 0) x (filter r xs) ∙ ap (λ n. cond (p x) 1 0 + n) (count-filter p r xs)
-      | false ↦ omega (arith, count-filter p r xs)
-    ]
-    ∙ sym (sum_by-cons (λ z. cond (r z && p z) 1 0) x xs)
+use Rattle.graph_rows.specs.Branches.{ends, row_along}
+use Rattle.graph_rows.specs.Directions.{whole_row, other_end, ends_of, direction_to}
+use Rattle.graph_rows.specs.declared.branch.Branch.{Branch}
+use Rattle.graph_rows.specs.declared.direction.Direction.{Direction}
+use Rattle.graph_rows.specs.declared.direction.Direction.TheVariants.{Out, In}
+use Rattle.graph_rows.specs.declared.graph_row.GraphRow.{GraphRow}
+use Rattle.graph_rows.proofs.CountLemmas.{count_same, passes, passes-cond, count-filter_map, count-filter, count-ends_of, head_one, tail_one}
 
 -- ---- the ends of a row
 
--- those that pass a test are as many as the triples of the label whose ends do
-count-ends_of : (p : ℕ → Bool) (direction : Direction) (label : List ℕ) (ts : List Triple) → count_by p (ends_of direction label ts) ≡ count_by (λ (t : Triple). bytes_eq label t.label && p (other_end direction t)) ts
-count-ends_of p direction label ts =
-    count-map p (other_end direction) (filter (λ (t : Triple). bytes_eq label t.label) ts) ∙ count-filter (λ (t : Triple). p (other_end direction t)) (λ t. bytes_eq label t.label) ts
-
--- so they are as many in any order of the row
+-- those that pass a test are as many in any order of the row
 pub count_row : (p : ℕ → Bool) (b : Branch) (g : Graph) (v : ℕ) (row : GraphRow) → row ≡ row_along b v → (ts : List Triple) → IsPermutation ts (whole_row row.direction g row.vertex)
     → count_by p (ends_of row.direction row.label.now ts) ≡ count_by p (ends b g v)
 count_row p b g v row is ts all =
@@ -85,30 +46,6 @@ ends_few g direction label v =
     row_few : (d : Direction) → length (whole_row d g v) ≤ length g.triples
     row_few Out = let p : Triple → Bool = λ t. t.src == v in omega (arith, length-filter p g.triples, count_by-le-length p g.triples)
     row_few In = let p : Triple → Bool = λ t. t.dst == v in omega (arith, length-filter p g.triples, count_by-le-length p g.triples)
-
--- ---- one triple
-
-head_one : (lab tail head same rest : Bool) → (same ≡ true → tail ≡ true) → cond (lab && tail && head) (same && rest) false ≡ (same && (lab && (head && rest)))
-head_one true true true same rest h = refl
-head_one true true false true rest h = refl
-head_one true true false false rest h = refl
-head_one true false head true rest h = let bad : false ≡ true = h refl in cc
-head_one true false head false rest h = refl
-head_one false tail head true rest h = refl
-head_one false tail head false rest h = refl
-
-tail_one : (lab tail head same rest : Bool) → (same ≡ true → head ≡ true) → cond (lab && tail && head) (same && rest) false ≡ (same && (lab && (tail && rest)))
-tail_one true true true same rest h = refl
-tail_one true true false true rest h = let bad : false ≡ true = h refl in cc
-tail_one true true false false rest h = refl
-tail_one true false head true rest h = refl
-tail_one true false head false rest h = refl
-tail_one false tail head true rest h = refl
-tail_one false tail head false rest h = refl
-
-passes-cond : {Y : Type 0} (p : Y → Bool) (b : Bool) (y : Y) → passes p (cond b (Some y) None) ≡ cond b (p y) false
-passes-cond p true y = refl
-passes-cond p false y = refl
 
 -- ---- the joints of a vertex
 

@@ -3,8 +3,8 @@ use Rattle.std.specs.Prelude.{Some}
 use Rattle.std.proofs.lemmas.Option.{get_or_from_slice_get}
 use Rattle.flux_model.specs.Tree.{link_at}
 use Rattle.flux_model.specs.declared.pattern.PatternEdge.{PatternEdge}
-use Rattle.dcg_transition.specs.Ends.{direction_to}
-use Rattle.dcg_transition.proofs.branch.Branch.of.Goals as goal
+use Rattle.graph_rows.specs.Directions.{direction_to}
+use Rattle.graph_rows.proofs.branch.Branch.of.Goals as goal
 
 pub edge-edge-requires : goal.edge-edge-requires
 edge-edge-requires g c = (c.requires.belongs.links c.args.u c.unwrap-link.result (sym c.parent.ensures.link ∙ c.unwrap-link.ensures)).edge

@@ -2,7 +2,7 @@
 ghost use Rattle.std.specs.Prelude.{◌≡◌, ◌≢◌, ◌<◌, length};
 ghost use Rattle.flux_model.specs.Tree.{BelongsTo};
 ghost use Rattle.graph_traits.specs.Numbers.{IsNumberOf};
-ghost use Rattle.dcg_transition.specs.Branches.{IsBranchOf, row_along};
+ghost use Rattle.graph_rows.specs.Branches.{IsBranchOf, row_along};
 
 use crate::direction::Direction;
 use crate::graph_row::GraphRow;

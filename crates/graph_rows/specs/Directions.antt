@@ -6,9 +6,8 @@ use Rattle.flux_model.specs.declared.graph.Triple.{Triple}
 use Rattle.flux_model.specs.declared.pattern.PatternEdge.{PatternEdge}
 use Rattle.graph_traits.specs.Rows.{triples_from, triples_to}
 use Rattle.graph_traits.specs.declared.spot.Spot.{Spot}
-use Rattle.dcg_transition.specs.declared.direction.Direction.{Direction}
-use Rattle.dcg_transition.specs.declared.direction.Direction.TheVariants.{Out, In}
-use Rattle.dcg_transition.specs.declared.graph_row.GraphRow.{GraphRow}
+use Rattle.graph_rows.specs.declared.direction.Direction.{Direction}
+use Rattle.graph_rows.specs.declared.direction.Direction.TheVariants.{Out, In}
 
 -- the direction in which the edge leads to its end u
 abbrev pub direction_to : PatternEdge → ℕ → Direction
@@ -24,6 +23,11 @@ abbrev pub triple_of : Direction → ℕ → List ℕ → ℕ → Triple
 triple_of Out v label other = record { src = v; label = label; dst = other }
 triple_of In v label other = record { src = other; label = label; dst = v }
 
+-- the end at which a triple stands in a row, and its other end
+abbrev pub near_end : Direction → Triple → ℕ
+near_end Out t = t.src
+near_end In t = t.dst
+
 abbrev pub other_end : Direction → Triple → ℕ
 other_end Out t = t.dst
 other_end In t = t.src
@@ -32,22 +36,14 @@ other_end In t = t.src
 abbrev pub ends_of : Direction → List ℕ → List Triple → List ℕ
 ends_of direction label ts = map (other_end direction) (filter (λ (t : Triple). bytes_eq label t.label) ts)
 
--- ---- a row from a place on, by what the out rows and the in rows have there
+-- ---- what the rows of a store have, by the out rows and the in rows
 
+-- the triples of a row from a place on
 abbrev pub from_place : Direction → (ℕ → Spot → List Triple) → (ℕ → Spot → List Triple) → ℕ → Spot → List Triple
 from_place Out outs ins = outs
 from_place In outs ins = ins
-
-abbrev pub row_from : (ℕ → Spot → List Triple) → (ℕ → Spot → List Triple) → GraphRow → Spot → List Triple
-row_from outs ins row at = from_place row.direction outs ins row.vertex at
-
-abbrev pub ends_from : (ℕ → Spot → List Triple) → (ℕ → Spot → List Triple) → GraphRow → Spot → List ℕ
-ends_from outs ins row at = ends_of row.direction row.label.now (row_from outs ins row at)
 
 -- it is a place of the row
 abbrev pub IsPlace : Direction → (ℕ → Spot → Type 0) → (ℕ → Spot → Type 0) → ℕ → Spot → Type 0
 IsPlace Out is_out is_in = is_out
 IsPlace In is_out is_in = is_in
-
-abbrev pub IsPlaceOf : (ℕ → Spot → Type 0) → (ℕ → Spot → Type 0) → GraphRow → Spot → Type 0
-IsPlaceOf is_out is_in row at = IsPlace row.direction is_out is_in row.vertex at

@@ -1,6 +1,6 @@
 use Rattle.std.proofs.Common.{◌≡◌, ◌+◌, ◌≤◌, length}
-use Rattle.dcg_transition.specs.Ends.{row_from, ends_from, IsPlaceOf}
-use Rattle.dcg_transition.proofs.graph_row.GraphRow.next.Given as goal
+use Rattle.graph_rows.specs.LabelRows.{row_from, ends_from, IsPlaceOf}
+use Rattle.graph_rows.proofs.graph_row.GraphRow.next.Given as goal
 
 -- the triples that were passed over have other labels
 abbrev pub invariant-loop-turn : goal.invariant-loop-turn

@@ -1,6 +1,6 @@
 //! `Direction`: which row of a graph vertex has the triples of a pattern edge.
 ghost use Rattle.std.specs.Prelude.{◌≡◌};
-ghost use Rattle.dcg_transition.specs.Ends.{direction_to};
+ghost use Rattle.graph_rows.specs.Directions.{direction_to};
 
 use flux_model::PatternEdge;
 

@@ -1,0 +1,4 @@
+pub mod CountLemmas
+pub mod JointLemmas
+pub mod SumLemmas
+pub mod RestLemmas
