@@ -2,8 +2,6 @@
 use Rattle.std.specs.Prelude.{◌≡◌, ◌≢◌, ◌<◌, ◌^◌, ◌-◌, ℕ, zero, suc, ◌+◌, ◌==◌, ◌&&◌, Bool, false, List, length, map, replicate, slice_index, slice_set, Option, Some, None, if◌then◌else◌}
 use Rattle.std.specs.Option.{option_map, option_map_or}
 use Rattle.std.specs.List.{range_with_len}
-use Rattle.flux_model.specs.Graph.{Graph}
-use Rattle.flux_model.specs.Pattern.{fits_labels}
 use Rattle.flux_model.specs.Tree.{QueryTree, children}
 use Rattle.flux_model.specs.States.{Joined, reaches}
 use Rattle.flux_model.specs.Exact.{Row, StateRows, row_at, in_count, out_count}

@@ -1,3 +1,4 @@
 pub mod Directions
+pub mod WholeRows
 pub mod LabelRows
 pub mod Branches

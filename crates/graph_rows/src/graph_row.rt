@@ -3,10 +3,11 @@ ghost use Rattle.std.specs.Prelude.{◌≡◌, ◌+◌, ◌<◌, ◌≤◌, [], 
 ghost use Rattle.std.specs.Str.{bytes_eq};
 ghost use Rattle.flux_model.specs.Graph.{has_vertex};
 ghost use Rattle.graph_traits.specs.Numbers.{IsNumberOf};
-ghost use Rattle.graph_rows.specs.Directions.{triple_of, whole_row};
+ghost use Rattle.graph_rows.specs.Directions.{whole_row};
 ghost use Rattle.graph_rows.specs.LabelRows.{row_from, ends_from, IsPlaceOf};
 
 use crate::direction::Direction;
+use crate::whole_row::WholeRow;
 use flux_model::{Ledger, Steps, Text};
 use graph_traits::{HoldGraph, ReadGraph, Spot, Turn};
 
@@ -30,12 +31,14 @@ impl<'a> GraphRow<'a> {
     pub fn first<G: HoldGraph>(&self, graph: &G) -> Spot
         requires { IsTrue (has_vertex (G.graph graph.now) self.now.vertex) }
         ensures place { IsPlaceOf (G.is_out_place graph.now) (G.is_in_place graph.now) self.now result }
-        ensures all { IsPermutation (row_from (G.outs_from graph.now) (G.ins_from graph.now) self.now result) (whole_row self.now.direction (G.graph graph.now) self.now.vertex) }
+        ensures all { let row = row_from (G.outs_from graph.now) (G.ins_from graph.now) self.now in
+            IsPermutation (row result) (whole_row self.now.direction (G.graph graph.now) self.now.vertex) }
     {
-        match self.direction {
-            Direction::Out => graph.out_row(self.vertex),
-            Direction::In => graph.in_row(self.vertex),
-        }
+        let whole = WholeRow {
+            vertex: self.vertex,
+            direction: self.direction,
+        };
+        whole.first(graph)
     }
 
     /// The other end of the next triple of the label, from the place `from` on, and the place after it.
@@ -52,14 +55,20 @@ impl<'a> GraphRow<'a> {
         requires place { IsPlaceOf (G.is_out_place graph.now) (G.is_in_place graph.now) self.now from }
         ensures next { IfSome result (λ t. IsPlaceOf (G.is_out_place graph.now) (G.is_in_place graph.now) self.now t.1) }
         ensures end { IfSome result (λ t. IsTrue (has_vertex (G.graph graph.now) t.0)) }
-        ensures ends { MatchOption result (ends_from (G.outs_from graph.now) (G.ins_from graph.now) self.now from ≡ [])
-            (λ t. ends_from (G.outs_from graph.now) (G.ins_from graph.now) self.now from ≡ t.0 ∷ ends_from (G.outs_from graph.now) (G.ins_from graph.now) self.now t.1) }
-        ensures less { IfSome result (λ t. length (row_from (G.outs_from graph.now) (G.ins_from graph.now) self.now t.1) < length (row_from (G.outs_from graph.now) (G.ins_from graph.now) self.now from)) }
-        ensures steps { MatchOption result (steps.new ≤ steps.old + length (row_from (G.outs_from graph.now) (G.ins_from graph.now) self.now from) + 1)
-            (λ t. steps.new + length (row_from (G.outs_from graph.now) (G.ins_from graph.now) self.now t.1) ≤ steps.old + length (row_from (G.outs_from graph.now) (G.ins_from graph.now) self.now from)) }
+        ensures ends { let ends = ends_from (G.outs_from graph.now) (G.ins_from graph.now) self.now in
+            MatchOption result (ends from ≡ []) (λ t. ends from ≡ t.0 ∷ ends t.1) }
+        ensures less { let row = row_from (G.outs_from graph.now) (G.ins_from graph.now) self.now in
+            IfSome result (λ t. length (row t.1) < length (row from)) }
+        ensures steps { let row = row_from (G.outs_from graph.now) (G.ins_from graph.now) self.now in
+            MatchOption result (steps.new ≤ steps.old + length (row from) + 1)
+            (λ t. steps.new + length (row t.1) ≤ steps.old + length (row from)) }
     {
+        let whole = WholeRow {
+            vertex: self.vertex,
+            direction: self.direction,
+        };
         let mut at = from;
-        while let Some(turn) = self.turn(graph, at, steps) {
+        while let Some(turn) = whole.next(graph, at, steps) {
             at = turn.next;
             if self.has_label(graph, &turn) {
                 return Some((turn.other, at));
@@ -75,28 +84,5 @@ impl<'a> GraphRow<'a> {
         ensures { result ≡ bytes_eq self.now.label.now turn.now.label.now }
     {
         self.label_number == Some(turn.number)
-    }
-
-    /// What the row has at a place, of any label, or `None` at its end.
-    fn turn<'g, G: ReadGraph<L>, L: Ledger>(
-        &self,
-        graph: &'g G,
-        at: Spot,
-        steps: &mut Steps<L>,
-    ) -> Option<Turn<'g>>
-        requires stands { IsTrue (has_vertex (G.graph graph.now) self.now.vertex) }
-        requires place { IsPlaceOf (G.is_out_place graph.now) (G.is_in_place graph.now) self.now at }
-        ensures next { IfSome result (λ t. IsPlaceOf (G.is_out_place graph.now) (G.is_in_place graph.now) self.now t.next) }
-        ensures number { IfSome result (λ t. G.label_text graph.now t.number ≡ Some t.label.now) }
-        ensures end { IfSome result (λ t. IsTrue (has_vertex (G.graph graph.now) t.other)) }
-        ensures turn { MatchOption result (row_from (G.outs_from graph.now) (G.ins_from graph.now) self.now at ≡ [])
-            (λ t. row_from (G.outs_from graph.now) (G.ins_from graph.now) self.now at
-            ≡ triple_of self.now.direction self.now.vertex t.label.now t.other ∷ row_from (G.outs_from graph.now) (G.ins_from graph.now) self.now t.next) }
-        ensures step { steps.new ≡ steps.old + 1 }
-    {
-        match self.direction {
-            Direction::Out => graph.out_at(self.vertex, at, steps),
-            Direction::In => graph.in_at(self.vertex, at, steps),
-        }
     }
 }

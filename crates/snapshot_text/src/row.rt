@@ -8,6 +8,7 @@ ghost use Rattle.snapshot_text.specs.Row.{edge_triple};
 
 use crate::words::{end_line, start_line, write_id, write_word};
 use flux_model::{Ledger, Steps, Text};
+use graph_rows::{Direction, WholeRow};
 use graph_traits::ReadGraph;
 use std::alloc::AllocError;
 
@@ -47,8 +48,12 @@ fn read_row<'a, G: ReadGraph<L>, L: Ledger>(
     ensures { OnOk result (map (edge_triple id) row.new.items ≡ triples_from (G.graph graph.now) id) }
 {
     row.clear();
-    let mut at = graph.out_row(id);
-    while let Some(turn) = graph.out_at(id, at, steps) {
+    let outs = WholeRow {
+        vertex: id,
+        direction: Direction::Out,
+    };
+    let mut at = outs.first(graph);
+    while let Some(turn) = outs.next(graph, at, steps) {
         row.push(RowEdge {
             label: turn.label,
             other: turn.other,

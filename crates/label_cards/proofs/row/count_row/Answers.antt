@@ -9,7 +9,7 @@ use Rattle.label_cards.proofs.row.count_row.Goals as goal
 pub count_turn-requires-clause-room : goal.count_turn-requires-clause-room
 count_turn-requires-clause-room g c =
     let row = g.G.HoldGraph.outs_from c.args.graph.now c.args.v in
-    let whole = length_permutation (row c.out_row-at.result) (triples_from (g.G.HoldGraph.graph c.args.graph.now) c.args.v) c.out_row-at.ensures.all in
+    let whole = length_permutation (row c.first-at.result) (triples_from (g.G.HoldGraph.graph c.args.graph.now) c.args.v) c.first-at.ensures.all in
     λ k h. omega (arith, whole, rw c.in-Some.ensures.turn at (c.loop-turn.invariant.room k h), c.requires.room k (omega (arith, h, c.loop-turn.auto.counts)))
 
 pub returns : goal.returns
@@ -19,5 +19,5 @@ returns g c =
     let q = c.args.pattern.now in
     λ k h.
     let fits : Triple → ℕ = λ t. cond (fits_edge q (edge_at q k) graph t) 1 0 in
-    let whole = sum_by-IsPermutation fits (row c.out_row-at.result) (triples_from graph c.args.v) c.out_row-at.ensures.all in
+    let whole = sum_by-IsPermutation fits (row c.first-at.result) (triples_from graph c.args.v) c.first-at.ensures.all in
     omega (arith, whole, rw c.in_default.ensures.turn at (c.loop-turn.invariant.counted k (omega (arith, h, c.loop-turn.auto.counts))))
