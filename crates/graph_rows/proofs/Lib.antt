@@ -2,3 +2,4 @@ pub mod CountLemmas
 pub mod JointLemmas
 pub mod SumLemmas
 pub mod RestLemmas
+pub mod RowSumLemmas

@@ -1,5 +1,5 @@
 -- Sums over the vertices of a graph.
-use Rattle.std.proofs.Common.{◌≡◌, ℕ, ◌+◌, ◌<◌, Bool, true, false, cond, ◌&&◌, ◌||◌, ◌==◌, List, [], ◌∷◌, refl, sym, ap, ◌∙◌, subst, arith}
+use Rattle.std.proofs.Common.{◌≡◌, ℕ, ◌+◌, ◌<◌, ◌≤◌, Bool, true, false, cond, ◌&&◌, ◌||◌, ◌==◌, List, [], ◌∷◌, refl, sym, ap, ◌∙◌, subst, arith}
 use Rattle.std.specs.Prelude.{map, count_by, nat_eq}
 use Rattle.std.specs.List.{sum_by, list_any, AllByRecursion, IsDistinct}
 use Rattle.std.specs.Cmp.{nat_eq_equiv}
@@ -54,6 +54,21 @@ once x n (v ∷ vs) distinct m = by (x == v) refl (once x n vs distinct.1)
     by false e later =
         let here : cond (x == v) n 0 ≡ 0 = ap (λ b. cond b n 0) e in
         omega (arith, sum_by-cons (λ w. cond (x == w) n 0) v vs, here, later (ap (λ b. b || list_any (nat_eq x) vs) (sym e) ∙ m))
+
+-- and any number stands there at most once
+pub once_at_most : (x n : ℕ) (vs : List ℕ) → IsDistinct nat_eq vs → sum_by (λ v. cond (x == v) n 0) vs ≤ n
+unfolding IsDistinct
+once_at_most x n [] distinct = omega arith
+once_at_most x n (v ∷ vs) distinct = by (x == v) refl (once_at_most x n vs distinct.1)
+  where
+    by : (b : Bool) → (x == v) ≡ b → sum_by (λ w. cond (x == w) n 0) vs ≤ n → sum_by (λ w. cond (x == w) n 0) (v ∷ vs) ≤ n
+    by true e later =
+        let here : cond (x == v) n 0 ≡ n = ap (λ b. cond b n 0) e in
+        let others : AllByRecursion (λ y. nat_eq x y ≡ false) vs = subst (λ z. AllByRecursion (λ y. nat_eq z y ≡ false) vs) (sym (eqb-true x v e)) distinct.0 in
+        omega (arith, sum_by-cons (λ w. cond (x == w) n 0) v vs, here, nowhere x n vs others)
+    by false e later =
+        let here : cond (x == v) n 0 ≡ 0 = ap (λ b. cond b n 0) e in
+        omega (arith, sum_by-cons (λ w. cond (x == w) n 0) v vs, here, later)
 
 -- ---- the ids of a graph are distinct
 

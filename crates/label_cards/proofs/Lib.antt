@@ -1,3 +1,2 @@
-pub mod SumLemmas
 pub mod FitLemmas
 pub mod PassLemmas

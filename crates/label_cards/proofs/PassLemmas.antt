@@ -15,8 +15,9 @@ use Rattle.flux_model.specs.declared.limits.Limits.{Limits}
 use Rattle.flux_model.specs.declared.pattern.PatternEdge.{PatternEdge}
 use Rattle.graph_traits.specs.WithinLimits.{IsWithinLimits}
 use Rattle.graph_traits.specs.Rows.{triples_from}
+use Rattle.graph_rows.specs.declared.direction.Direction.TheVariants.{Out}
+use Rattle.graph_rows.proofs.RowSumLemmas.{count_of_ids}
 use Rattle.label_cards.specs.Counted.{vertex_adds, row_adds}
-use Rattle.label_cards.proofs.SumLemmas.{sum_of_rows}
 use Rattle.label_cards.proofs.FitLemmas.{fits_at}
 
 -- what a vector holds after its slice was written
@@ -54,7 +55,7 @@ module _ (q : PatternGraph) (g : Graph) where
     edges_are edges size each =
         ext_get_or 0 edges (edge_cards q g) (size ∙ sym (length-map q.edges card)) (λ k below.
         let within : k < length q.edges = rw size at below in
-        each k within ∙ over_all (λ w. row_adds q g w k) ∙ sum_of_rows (fits_edge q (edge_at q k) g) g h
+        each k within ∙ over_all (λ w. row_adds q g w k) ∙ count_of_ids (fits_edge q (edge_at q k) g) Out g h
         ∙ sym (get_or-map card q.edges k (record { tail = 0; label = []; head = 0 }) 0 within))
       where
         card : PatternEdge → ℕ
