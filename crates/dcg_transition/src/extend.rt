@@ -116,8 +116,10 @@ fn extend_ends<G: ReadGraph<L>, L: Ledger>(
     requires child { branch.now.child < length dcg.old.children }
     requires apart { branch.now.child ≢ branch.now.link.parent }
     requires number { branch.now.number < slice_index dcg.old.children branch.now.link.parent }
-    requires row { IsSomeAnd (row_at dcg.old branch.now.link.parent v) (HasRoomFor branch.now.number (opens_from dcg.old branch.now (G.graph graph.now) v)) }
-    ensures { HasMoreOuts branch.now.link.parent v branch.now.number (opens_from dcg.old branch.now (G.graph graph.now) v) dcg.old dcg.new }
+    requires row { let more = opens_from dcg.old branch.now (G.graph graph.now) v in
+        IsSomeAnd (row_at dcg.old branch.now.link.parent v) (HasRoomFor branch.now.number more) }
+    ensures { let more = opens_from dcg.old branch.now (G.graph graph.now) v in
+        HasMoreOuts branch.now.link.parent v branch.now.number more dcg.old dcg.new }
 {
     let row = branch.row(v);
     let mut at = row.first(graph);

@@ -14,8 +14,8 @@ abbrev pub triples_to : Graph → ℕ → List Triple
 triples_to g v = filter (λ t. t.dst == v) g.triples
 
 -- the vertex with this id
-abbrev pub vertex_at : Graph → ℕ → Option Vertex
-vertex_at g id = find (λ v. v.id == id) g.vertices
+abbrev pub vertex_of_id : Graph → ℕ → Option Vertex
+vertex_of_id g id = find (λ v. v.id == id) g.vertices
 
 -- a row of each vertex from each of its places on, as it was
 abbrev pub SameRows : (ℕ → Spot → List Triple) → (ℕ → Spot → List Triple) → Type 0

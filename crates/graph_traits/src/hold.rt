@@ -11,10 +11,10 @@ ghost use Rattle.graph_traits.specs.declared.spot.Spot.{Spot};
 use crate::spot::Spot;
 use flux_model::Text;
 
-/// A store of a graph that is kept under limits.
+/// A store of a graph under limits. No call of this trait changes either, and none counts a step.
 ///
-/// Its meaning are the graph and the limits, which no call changes. Each vertex has a row of the triples that begin at it
-/// and a row of those that end at it, in an order that stays while the graph is unchanged. None of these calls counts a step.
+/// Each vertex has a row of the triples that begin at it and a row of those that end at it, in an order that stays while the
+/// graph is unchanged.
 pub trait HoldGraph: Drop {
     /// The graph.
     ghost graph: { Self → Graph };
@@ -77,6 +77,7 @@ pub trait HoldGraph: Drop {
     fn label_number(&self, label: &Text) -> Option<u32>
         ensures number { IsNumberOf (label_text self.now) label.now result }
         ensures absent { IfNone result (LacksLabel label.now (graph self.now).triples) };
+
     /// The number from which whatever hashes beside the store is to hash. Nothing is said of it, so that no answer depends on it.
     fn seed(&self) -> u64;
 }

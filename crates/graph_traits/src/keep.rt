@@ -18,8 +18,10 @@ pub trait KeepGraph: HoldGraph {
     /// `Exists` where the id is a vertex's. Else `Full` where there are as many vertices as the limit says, or more label
     /// names would be in use than it says.
     fn add_vertex(&mut self, id: u32, labels: &Labels) -> Result<Result<(), Code>, AllocError>
-        ensures ok { IfOk result (λ answer. OnOk answer (apply (Self.limits self.old) (Self.graph self.old) (AddVertex id labels.now) ≡ Ok (Self.graph self.new))) }
-        ensures refused { IfOk result (λ answer. IfErr answer (λ code. apply (Self.limits self.old) (Self.graph self.old) (AddVertex id labels.now) ≡ Err code)) }
+        ensures ok { let due = apply (Self.limits self.old) (Self.graph self.old) (AddVertex id labels.now) in
+            IfOk result (λ answer. OnOk answer (due ≡ Ok (Self.graph self.new))) }
+        ensures refused { let due = apply (Self.limits self.old) (Self.graph self.old) (AddVertex id labels.now) in
+            IfOk result (λ answer. IfErr answer (λ code. due ≡ Err code)) }
         ensures limits { Self.limits self.new ≡ Self.limits self.old }
         ensures unchanged { IfNotMade result (Self.graph self.new ≡ Self.graph self.old) }
         ensures listed { IfNotMade result (Self.listed self.new ≡ Self.listed self.old) }
@@ -43,8 +45,10 @@ pub trait KeepGraph: HoldGraph {
     /// `NoVertex` where an end is no vertex. Else `Exists` where the triple stands. Else `Full` where there are as many
     /// triples as the limit says, or more label names would be in use than it says.
     fn insert(&mut self, triple: &Triple) -> Result<Result<(), Code>, AllocError>
-        ensures ok { IfOk result (λ answer. OnOk answer (apply (Self.limits self.old) (Self.graph self.old) (AddEdge triple.now) ≡ Ok (Self.graph self.new))) }
-        ensures refused { IfOk result (λ answer. IfErr answer (λ code. apply (Self.limits self.old) (Self.graph self.old) (AddEdge triple.now) ≡ Err code)) }
+        ensures ok { let due = apply (Self.limits self.old) (Self.graph self.old) (AddEdge triple.now) in
+            IfOk result (λ answer. OnOk answer (due ≡ Ok (Self.graph self.new))) }
+        ensures refused { let due = apply (Self.limits self.old) (Self.graph self.old) (AddEdge triple.now) in
+            IfOk result (λ answer. IfErr answer (λ code. due ≡ Err code)) }
         ensures limits { Self.limits self.new ≡ Self.limits self.old }
         ensures unchanged { IfNotMade result (Self.graph self.new ≡ Self.graph self.old) }
         ensures listed { IfNotMade result (Self.listed self.new ≡ Self.listed self.old) }

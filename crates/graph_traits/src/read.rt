@@ -3,7 +3,7 @@ ghost use Rattle.std.specs.Prelude.{◌≡◌, ◌+◌, ◌<◌, [], ◌∷◌, 
 ghost use Rattle.flux_model.specs.Graph.{has_vertex, has_triple};
 ghost use Rattle.flux_model.specs.Pattern.{fits_labels};
 ghost use Rattle.graph_traits.specs.Numbers.{has_triple_by};
-ghost use Rattle.graph_traits.specs.Rows.{vertex_at};
+ghost use Rattle.graph_traits.specs.Rows.{vertex_of_id};
 
 use crate::hold::HoldGraph;
 use crate::spot::Spot;
@@ -39,7 +39,7 @@ pub trait ReadGraph<L: Ledger>: HoldGraph {
     /// The labels of `v`, which has to be a vertex.
     fn labels_of(&self, v: u32, steps: &mut Steps<L>) -> &Labels
         requires { IsTrue (has_vertex (Self.graph self.now) v) }
-        ensures labels { vertex_at (Self.graph self.now) v ≡ Some (record { id = v; labels = result.now }) }
+        ensures labels { vertex_of_id (Self.graph self.now) v ≡ Some (record { id = v; labels = result.now }) }
         ensures step { steps.new ≡ steps.old + 1 };
 
     /// Whether `v`, which has to be a vertex, has each of the labels.
@@ -65,8 +65,8 @@ pub trait ReadGraph<L: Ledger>: HoldGraph {
         ensures next { IfSome result (λ t. Self.is_out_place self.now v t.next) }
         ensures number { IfSome result (λ t. Self.label_text self.now t.number ≡ Some t.label.now) }
         ensures end { IfSome result (λ t. IsTrue (has_vertex (Self.graph self.now) t.other)) }
-        ensures turn { MatchOption result (Self.outs_from self.now v at ≡ [])
-            (λ t. Self.outs_from self.now v at ≡ record { src = v; label = t.label.now; dst = t.other } ∷ Self.outs_from self.now v t.next) }
+        ensures turn { let left = Self.outs_from self.now v in
+            MatchOption result (left at ≡ []) (λ t. left at ≡ record { src = v; label = t.label.now; dst = t.other } ∷ left t.next) }
         ensures step { steps.new ≡ steps.old + 1 };
 
     /// What the in row of the vertex `v` has at the place `at`, or `None` at the row's end. The other end is a vertex.
@@ -76,7 +76,7 @@ pub trait ReadGraph<L: Ledger>: HoldGraph {
         ensures next { IfSome result (λ t. Self.is_in_place self.now v t.next) }
         ensures number { IfSome result (λ t. Self.label_text self.now t.number ≡ Some t.label.now) }
         ensures end { IfSome result (λ t. IsTrue (has_vertex (Self.graph self.now) t.other)) }
-        ensures turn { MatchOption result (Self.ins_from self.now v at ≡ [])
-            (λ t. Self.ins_from self.now v at ≡ record { src = t.other; label = t.label.now; dst = v } ∷ Self.ins_from self.now v t.next) }
+        ensures turn { let left = Self.ins_from self.now v in
+            MatchOption result (left at ≡ []) (λ t. left at ≡ record { src = t.other; label = t.label.now; dst = v } ∷ left t.next) }
         ensures step { steps.new ≡ steps.old + 1 };
 }

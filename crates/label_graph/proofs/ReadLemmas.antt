@@ -22,7 +22,7 @@ use Rattle.label_graph.specs.declared.link.Link.{Link}
 use Rattle.label_graph.specs.declared.link.Node.{Node}
 use Rattle.label_graph.specs.declared.names.Name.{Name}
 use Rattle.label_graph.specs.Places.{vertex_of}
-use Rattle.graph_traits.specs.Rows.{vertex_at}
+use Rattle.graph_traits.specs.Rows.{vertex_of_id}
 use Rattle.flux_model.specs.Members.{In, AreOnce}
 use Rattle.flux_model.proofs.MemberLemmas.{in_any, any_in, mapped_in, in_mapped, once_permutation}
 use Rattle.flux_laws.proofs.SameMembersLemmas.{ascending_once}
@@ -78,7 +78,7 @@ module _ (names : List (Option Name)) (nodes : List (ℕ × Node)) (links : List
   one : (v : ℕ) (p : Node) → lookup (nat_eq v) nodes ≡ Some p → (w : Vertex) → In (sorted vertex_cmp (map vertex_of nodes)) w → (w.id == v) ≡ true → w ≡ record { id = v; labels = p.labels }
   one v p e w i q = n.one_each w (record { id = v; labels = p.labels }) (sorted_in vertex_cmp vertex_total (map vertex_of nodes) w i) (node_in nodes v p e) (eqb-true w.id v q)
 
-  pub labels_found : (v : ℕ) (p : Node) → lookup (nat_eq v) nodes ≡ Some p → vertex_at (kept_graph names (map vertex_of nodes) links) v ≡ Some (record { id = v; labels = p.labels })
+  pub labels_found : (v : ℕ) (p : Node) → lookup (nat_eq v) nodes ≡ Some p → vertex_of_id (kept_graph names (map vertex_of nodes) links) v ≡ Some (record { id = v; labels = p.labels })
   labels_found v p e = find_one (λ (w : Vertex). w.id == v) (sorted vertex_cmp (map vertex_of nodes)) (record { id = v; labels = p.labels }) (stands v p e) (eq-eqb v v refl) (one v p e)
 
   pub fits_found : (v : ℕ) (p : Node) (labels : List (List ℕ)) → lookup (nat_eq v) nodes ≡ Some p → fits_labels (kept_graph names (map vertex_of nodes) links) labels v ≡ is_within labels p.labels

@@ -12,7 +12,7 @@ use Rattle.std.proofs.lemmas.Option.{slice_get_within, get_or_from_slice_get, sl
 use Rattle.flux_model.specs.Ordered.{is_ascending}
 use Rattle.flux_model.specs.Graph.{Graph, IsGraph, ids, has_vertex, vertex_cmp}
 use Rattle.flux_model.specs.declared.graph.Vertex.{Vertex}
-use Rattle.graph_traits.specs.Rows.{vertex_at}
+use Rattle.graph_traits.specs.Rows.{vertex_of_id}
 use Rattle.snapshot_text.proofs.OrderLemmas.{same_number}
 use Rattle.flux_model.proofs.SortedLemmas.{strict_from_ascending, sorted_from_strict, sorted_form_unique}
 
@@ -77,7 +77,7 @@ find_at (v ∷ vs) (suc i) id w s e f =
     find_at vs i id w s.1 e (rw other at f)
 
 -- what is found by the id at a place stands at this place
-pub vertex-at : (g : Graph) (i id : ℕ) (w : Vertex) → IsGraph g → slice_get (ids g) i ≡ Some id → vertex_at g id ≡ Some w → slice_get g.vertices i ≡ Some w
+pub vertex-at : (g : Graph) (i id : ℕ) (w : Vertex) → IsGraph g → slice_get (ids g) i ≡ Some id → vertex_of_id g id ≡ Some w → slice_get g.vertices i ≡ Some w
 vertex-at g i id w is e f = find_at g.vertices i id w (ids-strict g is) e f
 
 -- the id at a place of what are the graph's ids

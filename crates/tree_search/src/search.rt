@@ -124,7 +124,7 @@ fn extend<G: ReadGraph<L>, F: Found, L: Ledger>(
         return hand_over(partial, found);
     }
     let w = search.order.vertex(k);
-    let row = row_at(search, k, partial);
+    let row = row_to(search, k, partial);
     let mut at = row.first(search.graph);
     while let Some((x, next)) = row.next(search.graph, at, steps) {
         at = next;
@@ -138,7 +138,7 @@ fn extend<G: ReadGraph<L>, F: Found, L: Ledger>(
 }
 
 /// The row of the id of the anchor at place `k`, in the direction in which the tree edge leads to the vertex.
-fn row_at<'a, G: HoldGraph>(search: &'a Search<'_, G>, k: usize, partial: &Partial) -> GraphRow<'a>
+fn row_to<'a, G: HoldGraph>(search: &'a Search<'_, G>, k: usize, partial: &Partial) -> GraphRow<'a>
     requires ready { IsReady search.now.pattern.now search.now.tree.now search.now.dcg.now (G.graph search.now.graph.now) search.now.order }
     requires numbers { AreNumbersOf (G.label_text search.now.graph.now) (G.graph search.now.graph.now) search.now.pattern.now search.now.numbers.items }
     requires some { 1 ≤ k }

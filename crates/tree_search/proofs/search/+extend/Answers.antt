@@ -36,30 +36,30 @@ returns-then-k-len-clause-some g t c =
 pub first-at-requires : goal.first-at-requires
 first-at-requires g t c =
     let s = c.args.search.now in
-    let r = c.row_at-row.result in
-    anchor_stands s.pattern.now s.tree.now s.dcg.now (g.G.HoldGraph.graph s.graph.now) s.order c.requires.ready c.args.k (omega (arith, c.requires.few, c.if-k-len.false, c.len.ensures)) c.args.partial.now c.requires.given c.requires.some r.vertex r.direction r.label.now c.row_at-row.ensures.row
+    let r = c.row_to-row.result in
+    anchor_stands s.pattern.now s.tree.now s.dcg.now (g.G.HoldGraph.graph s.graph.now) s.order c.requires.ready c.args.k (omega (arith, c.requires.few, c.if-k-len.false, c.len.ensures)) c.args.partial.now c.requires.given c.requires.some r.vertex r.direction r.label.now c.row_to-row.ensures.row
 
 pub loop-x-init : goal.loop-x-init
 loop-x-init g t c =
     let s = c.args.search.now in
-    let r = c.row_at-row.result in
+    let r = c.row_to-row.result in
     let graph = g.G.HoldGraph.graph s.graph.now in
     let rows = row_from (g.G.HoldGraph.outs_from s.graph.now) (g.G.HoldGraph.ins_from s.graph.now) r c.first-at.result in
     record {
       place = c.first-at.ensures.place;
       partial = refl;
       stand = end_stands graph r.vertex r.direction r.label.now rows c.first-at.ensures.all;
-      found = turns_start s.pattern.now s.tree.now s.dcg.now graph s.order c.requires.ready c.args.k (omega (arith, c.requires.few, c.if-k-len.false, c.len.ensures)) c.args.partial.now c.requires.given c.vertex-w.result c.vertex-w.ensures c.args.partial.now refl c.requires.some r.vertex r.direction r.label.now c.row_at-row.ensures.row rows c.first-at.ensures.all (g.F.Found.list c.args.found.now);
+      found = turns_start s.pattern.now s.tree.now s.dcg.now graph s.order c.requires.ready c.args.k (omega (arith, c.requires.few, c.if-k-len.false, c.len.ensures)) c.args.partial.now c.requires.given c.vertex-w.result c.vertex-w.ensures c.args.partial.now refl c.requires.some r.vertex r.direction r.label.now c.row_to-row.ensures.row rows c.first-at.ensures.all (g.F.Found.list c.args.found.now);
       steps = λ live start.
-          (let paid = start_paid s.pattern.now s.tree.now s.dcg.now graph s.order c.requires.ready start live c.args.k c.requires.some (omega (arith, c.requires.few, c.if-k-len.false, c.len.ensures)) c.args.partial.now c.requires.given c.vertex-w.result c.vertex-w.ensures r.vertex r.direction r.label.now c.row_at-row.ensures.row rows c.first-at.ensures.all in
+          (let paid = start_paid s.pattern.now s.tree.now s.dcg.now graph s.order c.requires.ready start live c.args.k c.requires.some (omega (arith, c.requires.few, c.if-k-len.false, c.len.ensures)) c.args.partial.now c.requires.given c.vertex-w.result c.vertex-w.ensures r.vertex r.direction r.label.now c.row_to-row.ensures.row rows c.first-at.ensures.all in
           omega (arith, paid));
     }
 
 pub next-requires-clause-stands : goal.next-requires-clause-stands
 next-requires-clause-stands g t c =
     let s = c.args.search.now in
-    let r = c.row_at-row.result in
-    anchor_stands s.pattern.now s.tree.now s.dcg.now (g.G.HoldGraph.graph s.graph.now) s.order c.requires.ready c.args.k (omega (arith, c.requires.few, c.if-k-len.false, c.len.ensures)) c.args.partial.now c.requires.given c.requires.some r.vertex r.direction r.label.now c.row_at-row.ensures.row
+    let r = c.row_to-row.result in
+    anchor_stands s.pattern.now s.tree.now s.dcg.now (g.G.HoldGraph.graph s.graph.now) s.order c.requires.ready c.args.k (omega (arith, c.requires.few, c.if-k-len.false, c.len.ensures)) c.args.partial.now c.requires.given c.requires.some r.vertex r.direction r.label.now c.row_to-row.ensures.row
 
 pub may_have-requires-clause-open : goal.may_have-requires-clause-open
 may_have-requires-clause-open g t c =
@@ -69,18 +69,18 @@ may_have-requires-clause-open g t c =
 pub extend-requires : goal.extend-requires
 extend-requires g t c κs within =
     let s = c.args.search.now in
-    let r = c.row_at-row.result in
+    let r = c.row_to-row.result in
     let graph = g.G.HoldGraph.graph s.graph.now in
     let rows = row_from (g.G.HoldGraph.outs_from s.graph.now) (g.G.HoldGraph.ins_from s.graph.now) r in
     let ends = ends_from (g.G.HoldGraph.outs_from s.graph.now) (g.G.HoldGraph.ins_from s.graph.now) r in
-    let given = turn_given s.pattern.now s.tree.now s.dcg.now graph s.order c.requires.ready c.args.k (omega (arith, c.requires.few, c.if-k-len.false, c.len.ensures)) c.args.partial.now c.requires.given c.vertex-w.result c.vertex-w.ensures c.loop-x.partial c.loop-x.invariant.partial c.requires.some r.vertex r.direction r.label.now c.row_at-row.ensures.row c.in-Some.x (ends c.loop-x.at) (ends c.in-Some.next) c.in-Some.ensures.ends c.loop-x.invariant.stand c.may_have.result c.may_have.ensures.value c.if-may_have.true c.put.new.self c.put.ensures in
+    let given = turn_given s.pattern.now s.tree.now s.dcg.now graph s.order c.requires.ready c.args.k (omega (arith, c.requires.few, c.if-k-len.false, c.len.ensures)) c.args.partial.now c.requires.given c.vertex-w.result c.vertex-w.ensures c.loop-x.partial c.loop-x.invariant.partial c.requires.some r.vertex r.direction r.label.now c.row_to-row.ensures.row c.in-Some.x (ends c.loop-x.at) (ends c.in-Some.next) c.in-Some.ensures.ends c.loop-x.invariant.stand c.may_have.result c.may_have.ensures.value c.if-may_have.true c.put.new.self c.put.ensures in
     let few : c.args.k + 1 ≤ length (vertices s.order) = omega (arith, c.requires.few, c.if-k-len.false, c.len.ensures) in
     (search rules, (within.0, (within.1.0, (within.1.1, (c.requires.ready, (c.requires.numbers, (omega arith, (few, given))))))))
 
 pub returns-in_err-extend-clause-some : goal.returns-in_err-extend-clause-some
 returns-in_err-extend-clause-some g t c =
     let s = c.args.search.now in
-    let r = c.row_at-row.result in
+    let r = c.row_to-row.result in
     let graph = g.G.HoldGraph.graph s.graph.now in
     let list = g.F.Found.list in
     let rows = row_from (g.G.HoldGraph.outs_from s.graph.now) (g.G.HoldGraph.ins_from s.graph.now) r in
@@ -90,7 +90,7 @@ returns-in_err-extend-clause-some g t c =
 pub loop-x-preserved-then-may_have : goal.loop-x-preserved-then-may_have
 loop-x-preserved-then-may_have g t c =
     let s = c.args.search.now in
-    let r = c.row_at-row.result in
+    let r = c.row_to-row.result in
     let graph = g.G.HoldGraph.graph s.graph.now in
     let list = g.F.Found.list in
     let rows = row_from (g.G.HoldGraph.outs_from s.graph.now) (g.G.HoldGraph.ins_from s.graph.now) r in
@@ -108,7 +108,7 @@ loop-x-preserved-then-may_have g t c =
 pub loop-x-preserved : goal.loop-x-preserved
 loop-x-preserved g t c =
     let s = c.args.search.now in
-    let r = c.row_at-row.result in
+    let r = c.row_to-row.result in
     let graph = g.G.HoldGraph.graph s.graph.now in
     let list = g.F.Found.list in
     let rows = row_from (g.G.HoldGraph.outs_from s.graph.now) (g.G.HoldGraph.ins_from s.graph.now) r in
@@ -126,7 +126,7 @@ loop-x-preserved g t c =
 pub returns-clause-steps : goal.returns-clause-steps
 returns-clause-steps g t c =
     let s = c.args.search.now in
-    let r = c.row_at-row.result in
+    let r = c.row_to-row.result in
     let rows = row_from (g.G.HoldGraph.outs_from s.graph.now) (g.G.HoldGraph.ins_from s.graph.now) r in
     λ live start.
     (let ended = c.in_default.ensures.steps in

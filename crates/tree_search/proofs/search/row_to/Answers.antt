@@ -10,7 +10,7 @@ use Rattle.graph_traits.specs.Numbers.{IsNumberOf}
 use Rattle.graph_rows.specs.Directions.{direction_to}
 use Rattle.tree_search.specs.Given.{nth_vertex, nth_anchor, edge_between}
 use Rattle.tree_search.proofs.TieLemmas.{anchor_inside, anchor_beside, anchor_given}
-use Rattle.tree_search.proofs.search.row_at.Goals as goal
+use Rattle.tree_search.proofs.search.row_to.Goals as goal
 
 pub edge_between-number-requires-clause-anchor : goal.edge_between-number-requires-clause-anchor
 edge_between-number-requires-clause-anchor g c =
