@@ -5,7 +5,7 @@ use Rattle.std.specs.Map.{lookup, keys_of, remove_entry}
 use Rattle.std.proofs.lemmas.Option.{none-some}
 use Rattle.std.proofs.lemmas.List.Sorted.{IsPermutation-refl, IsPermutation-trans, IsPermutation-cons, IsPermutation-middle}
 use Rattle.label_graph.specs.declared.link.Link.{Link}
-use Rattle.label_graph.specs.declared.link.Turn.{Turn}
+use Rattle.label_graph.specs.declared.link.RowEntry.{RowEntry}
 use Rattle.label_graph.specs.declared.link.Places.{Places}
 use Rattle.label_graph.specs.declared.link.Node.{Node}
 use Rattle.label_graph.specs.Places.{AreInverse, ArePlaced, link_eq, out_place, in_place, link_at, outs, ins, out_link, in_link}
@@ -17,8 +17,8 @@ same_inverse f f' g g' fs gs h = record {
   back = λ b a e. fs a ∙ h.back b a (sym (gs b) ∙ e);
 }
 
-pub same_rows : (link : ℕ → Turn → Link) (rows rows' : ℕ → List Turn) → ((q : ℕ) → rows' q ≡ rows q) → (a : ℕ × ℕ) → link_at link rows' a ≡ link_at link rows a
-same_rows link rows rows' h a = ap (λ (l : List Turn). option_map (link a.0) (slice_get l a.1)) (h a.0)
+pub same_rows : (link : ℕ → RowEntry → Link) (rows rows' : ℕ → List RowEntry) → ((q : ℕ) → rows' q ≡ rows q) → (a : ℕ × ℕ) → link_at link rows' a ≡ link_at link rows a
+same_rows link rows rows' h a = ap (λ (l : List RowEntry). option_map (link a.0) (slice_get l a.1)) (h a.0)
 
 pub same_placed : (nodes nodes' : List (ℕ × Node)) (places places' : List (Link × Places)) → ((q : ℕ) → outs nodes' q ≡ outs nodes q) → ((q : ℕ) → ins nodes' q ≡ ins nodes q) →
     ((q : Link) → lookup (link_eq q) places' ≡ lookup (link_eq q) places) → ArePlaced nodes places → ArePlaced nodes' places'

@@ -5,7 +5,7 @@ use Rattle.std.specs.Map.{lookup}
 use Rattle.std.proofs.lemmas.Bool.{and_parts, eqb-true, eq-eqb, cases_eq, cases_lt}
 use Rattle.std.proofs.lemmas.Option.{none-some, same_Some, slice_get_within, slice_get_past, some_pair_parts}
 use Rattle.label_graph.specs.declared.link.Link.{Link}
-use Rattle.label_graph.specs.declared.link.Turn.{Turn}
+use Rattle.label_graph.specs.declared.link.RowEntry.{RowEntry}
 use Rattle.label_graph.specs.declared.link.Places.{Places}
 use Rattle.label_graph.specs.Places.{AreInverse, link_eq, link_at, IsPulled}
 use Rattle.label_graph.proofs.InverseLemmas.{CanTell, added, removed, moved}
@@ -87,22 +87,22 @@ slice_get_pushed (x ∷ xs) y = slice_get_pushed xs y
 no_pair : (a b : ℕ × ℕ) → (a ≡ b → ⊥) → a.0 ≡ b.0 → a.1 ≡ b.1 → ⊥
 no_pair a b n p q = n (pair_same a.0 a.1 b.0 b.1 p q)
 
--- ---- one turn more
-module _ (link : ℕ → Turn → Link) (rows rows' : ℕ → List Turn) (v : ℕ) (t : Turn) (row : rows' v ≡ rows v ++ t ∷ []) (others : (q : ℕ) → (q ≡ v → ⊥) → rows' q ≡ rows q) where
+-- ---- one entry more
+module _ (link : ℕ → RowEntry → Link) (rows rows' : ℕ → List RowEntry) (v : ℕ) (t : RowEntry) (row : rows' v ≡ rows v ++ t ∷ []) (others : (q : ℕ) → (q ≡ v → ⊥) → rows' q ≡ rows q) where
   pushed_apart : (a : ℕ × ℕ) → (a ≡ (v, length (rows v)) → ⊥) → link_at link rows' a ≡ link_at link rows a
-  pushed_apart a n = ⊎_elim here (λ m. ap (λ (l : List Turn). option_map (link a.0) (slice_get l a.1)) (others a.0 m)) (cases_eq a.0 v)
+  pushed_apart a n = ⊎_elim here (λ m. ap (λ (l : List RowEntry). option_map (link a.0) (slice_get l a.1)) (others a.0 m)) (cases_eq a.0 v)
     where
-      same : (l : List Turn) → slice_get (l ++ t ∷ []) a.1 ≡ slice_get l a.1 → rows' v ≡ l ++ t ∷ [] → rows v ≡ l → slice_get (rows' v) a.1 ≡ slice_get (rows v) a.1
+      same : (l : List RowEntry) → slice_get (l ++ t ∷ []) a.1 ≡ slice_get l a.1 → rows' v ≡ l ++ t ∷ [] → rows v ≡ l → slice_get (rows' v) a.1 ≡ slice_get (rows v) a.1
       same l h e w = cc
 
-      turn : a.0 ≡ v → slice_get (rows' v) a.1 ≡ slice_get (rows v) a.1
-      turn p = same (rows v) (⊎_elim (slice_get_in (rows v) (t ∷ []) a.1)
+      entry : a.0 ≡ v → slice_get (rows' v) a.1 ≡ slice_get (rows v) a.1
+      entry p = same (rows v) (⊎_elim (slice_get_in (rows v) (t ∷ []) a.1)
           (λ past. let out : a.1 ≡ length (rows v) → ⊥ = no_pair a (v, length (rows v)) n p in
           slice_get_past (rows v ++ t ∷ []) a.1 (omega (arith, length-append (rows v) (t ∷ []))) ∙ sym (slice_get_past (rows v) a.1 past)) (cases_lt a.1 (length (rows v)))) row refl
 
       here : a.0 ≡ v → link_at link rows' a ≡ link_at link rows a
       here p = let P : ℕ → Type 0 = λ x. option_map (link a.0) (slice_get (rows' x) a.1) ≡ option_map (link a.0) (slice_get (rows x) a.1) in
-          subst P (sym p) (ap (option_map (link a.0)) (turn p))
+          subst P (sym p) (ap (option_map (link a.0)) (entry p))
 
   pub pushed_placed : (g g' : Link → Option (ℕ × ℕ)) → AreInverse (link_at link rows) g → g (link v t) ≡ None →
       ((q : Link) → g' q ≡ cond (link_eq (link v t) q) (Some (v, length (rows v))) (g q)) → AreInverse (link_at link rows') g'
@@ -115,8 +115,8 @@ module _ (link : ℕ → Turn → Link) (rows rows' : ℕ → List Turn) (v : �
       pushed_apart
       (λ q n. rw (set q, link_apart (link v t) q n) refl)
 
--- ---- one turn less
-module _ (link : ℕ → Turn → Link) (rows : ℕ → List Turn) (v i : ℕ) (k : Link) (p : Link → Option (ℕ × ℕ))
+-- ---- one entry less
+module _ (link : ℕ → RowEntry → Link) (rows : ℕ → List RowEntry) (v i : ℕ) (k : Link) (p : Link → Option (ℕ × ℕ))
     (h : AreInverse (link_at link rows) (λ q. cond (link_eq k q) (Some (v, i)) (p q))) where
   at_first : link_at link rows (v, i) ≡ Some k
   at_first = h.back k (v, i) (rw (link_refl k) refl)
@@ -124,24 +124,24 @@ module _ (link : ℕ → Turn → Link) (rows : ℕ → List Turn) (v i : ℕ) (
   pub pulled_within : i < length (rows v)
   pulled_within = let x = option_map_some (link v) (slice_get (rows v) i) k at_first in slice_get_within (rows v) i x.0 x.1
 
-module _ (link : ℕ → Turn → Link) (rows rows' : ℕ → List Turn) (v i : ℕ) (k : Link) (p : Link → Option (ℕ × ℕ))
+module _ (link : ℕ → RowEntry → Link) (rows rows' : ℕ → List RowEntry) (v i : ℕ) (k : Link) (p : Link → Option (ℕ × ℕ))
     (h : AreInverse (link_at link rows) (λ q. cond (link_eq k q) (Some (v, i)) (p q))) (gone : p k ≡ None)
     (row : IsPulled i (rows v) (rows' v)) (others : (q : ℕ) → (q ≡ v → ⊥) → rows' q ≡ rows q) where
   g0 : Link → Option (ℕ × ℕ)
   g0 q = cond (link_eq k q) (Some (v, i)) (p q)
 
   pulled_apart : (a : ℕ × ℕ) → (a ≡ (v, i) → ⊥) → (a ≡ (v, length (rows' v)) → ⊥) → link_at link rows' a ≡ link_at link rows a
-  pulled_apart a n m = ⊎_elim here (λ d. ap (λ (l : List Turn). option_map (link a.0) (slice_get l a.1)) (others a.0 d)) (cases_eq a.0 v)
+  pulled_apart a n m = ⊎_elim here (λ d. ap (λ (l : List RowEntry). option_map (link a.0) (slice_get l a.1)) (others a.0 d)) (cases_eq a.0 v)
     where
-      turn : a.0 ≡ v → slice_get (rows' v) a.1 ≡ slice_get (rows v) a.1
-      turn e =
+      entry : a.0 ≡ v → slice_get (rows' v) a.1 ≡ slice_get (rows v) a.1
+      entry e =
           let out : a.1 ≡ i → ⊥ = no_pair a (v, i) n e in
           let end : a.1 ≡ length (rows' v) → ⊥ = no_pair a (v, length (rows' v)) m e in
           ⊎_elim (row.others a.1 out) (λ past. slice_get_past (rows' v) a.1 past ∙ sym (slice_get_past (rows v) a.1 (let s = row.shorter in omega arith))) (cases_lt a.1 (length (rows' v)))
 
       here : a.0 ≡ v → link_at link rows' a ≡ link_at link rows a
       here e = let P : ℕ → Type 0 = λ x. option_map (link a.0) (slice_get (rows' x) a.1) ≡ option_map (link a.0) (slice_get (rows x) a.1) in
-          subst P (sym e) (ap (option_map (link a.0)) (turn e))
+          subst P (sym e) (ap (option_map (link a.0)) (entry e))
 
   -- it was the last
   pub last_left : slice_get (rows' v) i ≡ None → AreInverse (link_at link rows') p
@@ -155,22 +155,22 @@ module _ (link : ℕ → Turn → Link) (rows rows' : ℕ → List Turn) (v i : 
       (λ q n. rw (link_apart k q n) refl)
 
   -- another was moved
-  moved_from : (t : Turn) → slice_get (rows' v) i ≡ Some t → cond (link_eq k (link v t)) (Some (v, i)) (p (link v t)) ≡ Some (v, length (rows' v))
+  moved_from : (t : RowEntry) → slice_get (rows' v) i ≡ Some t → cond (link_eq k (link v t)) (Some (v, i)) (p (link v t)) ≡ Some (v, length (rows' v))
   moved_from t some =
       let lt : i < length (rows' v) = slice_get_within (rows' v) i t some in
       h.there (v, length (rows' v)) (link v t) (ap (option_map (link v)) (sym (row.moved lt) ∙ some))
 
-  moved_other : (t : Turn) → slice_get (rows' v) i ≡ Some t → link v t ≡ k → ⊥
+  moved_other : (t : RowEntry) → slice_get (rows' v) i ≡ Some t → link v t ≡ k → ⊥
   moved_other t some e =
       let lt : i < length (rows' v) = slice_get_within (rows' v) i t some in
       let q : cond (link_eq k k) (Some (v, i)) (p k) ≡ Some (v, length (rows' v)) = rw e at (moved_from t some) in
       let s : Some (v, i) ≡ Some (v, length (rows' v)) = rw (link_refl k) at q in
       let u : (v ≡ v) × (i ≡ length (rows' v)) = some_pair_parts v v i (length (rows' v)) s in omega (arith, u.1)
 
-  pub moved_stands : (t : Turn) → slice_get (rows' v) i ≡ Some t → p (link v t) ≡ Some (v, length (rows' v))
+  pub moved_stands : (t : RowEntry) → slice_get (rows' v) i ≡ Some t → p (link v t) ≡ Some (v, length (rows' v))
   moved_stands t some = rw (link_apart k (link v t) (moved_other t some)) at (moved_from t some)
 
-  pub moved_left : (t : Turn) → slice_get (rows' v) i ≡ Some t → (p' : Link → Option (ℕ × ℕ)) →
+  pub moved_left : (t : RowEntry) → slice_get (rows' v) i ≡ Some t → (p' : Link → Option (ℕ × ℕ)) →
       ((q : Link) → p' q ≡ cond (link_eq (link v t) q) (Some (v, i)) (p q)) → AreInverse (link_at link rows') p'
   moved_left t some p' set =
       moved tell_pair tell_link (link_at link rows) (link_at link rows') (λ q. cond (link_eq k q) (Some (v, i)) (p q)) p' (v, i) (v, length (rows' v)) k (link v t) h

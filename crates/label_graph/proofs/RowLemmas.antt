@@ -13,7 +13,7 @@ use Rattle.flux_model.specs.Graph.{triple_cmp, has_vertex}
 use Rattle.flux_model.specs.declared.graph.Triple.{Triple}
 use Rattle.flux_model.specs.declared.graph.Vertex.{Vertex}
 use Rattle.label_graph.specs.declared.link.Link.{Link}
-use Rattle.label_graph.specs.declared.link.Turn.{Turn}
+use Rattle.label_graph.specs.declared.link.RowEntry.{RowEntry}
 use Rattle.label_graph.specs.declared.link.Places.{Places}
 use Rattle.label_graph.specs.declared.link.Node.{Node}
 use Rattle.label_graph.specs.declared.names.Name.{Name}
@@ -34,21 +34,21 @@ use Rattle.graph_traits.proofs.NumberLemmas.{triple_exact}
 
 -- ---- a side of the rows
 
--- of the rows of one side: the link of a turn in the row of a vertex, and the end of a link and of a triple that the row belongs to
-pub record IsSide (link : ℕ → Turn → Link) (owner : Link → ℕ) (owner_of : Triple → ℕ) : Type 0 where
-  pub at : (v : ℕ) (t : Turn) → owner (link v t) ≡ v
-  pub label : (v : ℕ) (t : Turn) → (link v t).label ≡ t.label
-  pub turn : (v : ℕ) (s t : Turn) → link v s ≡ link v t → s ≡ t
+-- of the rows of one side: the link of an entry in the row of a vertex, and the end of a link and of a triple that the row belongs to
+pub record IsSide (link : ℕ → RowEntry → Link) (owner : Link → ℕ) (owner_of : Triple → ℕ) : Type 0 where
+  pub at : (v : ℕ) (t : RowEntry) → owner (link v t) ≡ v
+  pub label : (v : ℕ) (t : RowEntry) → (link v t).label ≡ t.label
+  pub entry : (v : ℕ) (s t : RowEntry) → link v s ≡ link v t → s ≡ t
   pub triple : (names : List (Option Name)) (k : Link) → owner_of (triple_of names k) ≡ owner k
 
-turn_is : (a b c d : ℕ) → a ≡ c → b ≡ d → ◌≡◌ {A = Turn} (record { label = a; other = b }) (record { label = c; other = d })
-turn_is a b c d p q = cc
+entry_is : (a b c d : ℕ) → a ≡ c → b ≡ d → ◌≡◌ {A = RowEntry} (record { label = a; other = b }) (record { label = c; other = d })
+entry_is a b c d p q = cc
 
 out_side : IsSide out_link (λ (k : Link). k.src) (λ (t : Triple). t.src)
 out_side = record {
   at = λ v t. refl;
   label = λ v t. refl;
-  turn = λ v s t e. turn_is s.label s.other t.label t.other (ap (λ (k : Link). k.label) e) (ap (λ (k : Link). k.dst) e);
+  entry = λ v s t e. entry_is s.label s.other t.label t.other (ap (λ (k : Link). k.label) e) (ap (λ (k : Link). k.dst) e);
   triple = λ names k. refl;
 }
 
@@ -56,7 +56,7 @@ in_side : IsSide in_link (λ (k : Link). k.dst) (λ (t : Triple). t.dst)
 in_side = record {
   at = λ v t. refl;
   label = λ v t. refl;
-  turn = λ v s t e. turn_is s.label s.other t.label t.other (ap (λ (k : Link). k.label) e) (ap (λ (k : Link). k.src) e);
+  entry = λ v s t e. entry_is s.label s.other t.label t.other (ap (λ (k : Link). k.label) e) (ap (λ (k : Link). k.src) e);
   triple = λ names k. refl;
 }
 
@@ -64,16 +64,16 @@ some_place : (o : Option Places) → is_some o ≡ true → (p : Places) × (o �
 some_place None e = cc
 some_place (Some p) e = (p, refl)
 
-module _ (link : ℕ → Turn → Link) (owner : Link → ℕ) (owner_of : Triple → ℕ) (side : IsSide link owner owner_of) (number : Places → ℕ) (rows : ℕ → List Turn)
+module _ (link : ℕ → RowEntry → Link) (owner : Link → ℕ) (owner_of : Triple → ℕ) (side : IsSide link owner owner_of) (number : Places → ℕ) (rows : ℕ → List RowEntry)
     (places : List (Link × Places)) (h : AreInverse (link_at link rows) (λ k. option_map (λ (p : Places). (owner k, number p)) (lookup (link_eq k) places))) where
-  turns_once : (v : ℕ) → AreOnce (rows v)
-  turns_once v = once_by_place (rows v) (λ i j t p q.
+  entries_once : (v : ℕ) → AreOnce (rows v)
+  entries_once v = once_by_place (rows v) (λ i j t p q.
       let a = h.there (v, i) (link v t) (ap (option_map (link v)) p) in
       let b = h.there (v, j) (link v t) (ap (option_map (link v)) q) in
       let e : Some (v, i) ≡ Some (v, j) = sym a ∙ b in
       let r : (v ≡ v) × (i ≡ j) = some_pair_parts v v i j e in r.1)
 
-  link_stands : (v i : ℕ) (t : Turn) → slice_get (rows v) i ≡ Some t → In (keys_of places) (link v t)
+  link_stands : (v i : ℕ) (t : RowEntry) → slice_get (rows v) i ≡ Some t → In (keys_of places) (link v t)
   link_stands v i t e =
       let place = h.there (v, i) (link v t) (ap (option_map (link v)) e) in
       let some = IsSome-mapped (λ (p : Places). (owner (link v t), number p)) (lookup (link_eq (link v t)) places) (v, i) place in
@@ -81,8 +81,8 @@ module _ (link : ℕ → Turn → Link) (owner : Link → ℕ) (owner_of : Tripl
       let P : Link → Type 0 = λ z. In (keys_of places) z in
       subst P (sym (link_same (link v t) l.0 l.2)) l.1
 
-  turn_stands : (k : Link) → In (keys_of places) k → (i : ℕ) × (t : Turn) × (slice_get (rows (owner k)) i ≡ Some t) × (link (owner k) t ≡ k)
-  turn_stands k i =
+  entry_stands : (k : Link) → In (keys_of places) k → (i : ℕ) × (t : RowEntry) × (slice_get (rows (owner k)) i ≡ Some t) × (link (owner k) t ≡ k)
+  entry_stands k i =
       let has : list_any (link_eq k) (keys_of places) ≡ true = any_in (link_eq k) (keys_of places) k i (link_refl k) in
       let p = some_place (lookup (link_eq k) places) (is_some-lookup (link_eq k) places ∙ has) in
       let back = h.back k (owner k, number p.0) (ap (option_map (λ (p : Places). (owner k, number p))) p.1) in
@@ -90,18 +90,18 @@ module _ (link : ℕ → Turn → Link) (owner : Link → ℕ) (owner_of : Tripl
       (number p.0, t.0, t.1, t.2)
 
   module _ (names : List (Option Name)) (vertices : List Vertex) (n : IsNamed names vertices (keys_of places)) where
-    turn_known : (v i : ℕ) (t : Turn) → slice_get (rows v) i ≡ Some t → IsSome (slot names t.label)
-    turn_known v i t e =
+    entry_known : (v i : ℕ) (t : RowEntry) → slice_get (rows v) i ≡ Some t → IsSome (slot names t.label)
+    entry_known v i t e =
         let x = known_label names vertices (keys_of places) n (link v t) (link_stands v i t e) in
         let P : ℕ → Type 0 = λ m. slot names m ≡ Some x.0 in
         let s : slot names t.label ≡ Some x.0 = subst P (side.label v t) x.1 in rw s refl
 
-    turns_tell : IsTable names → (v : ℕ) (a b : Turn) → In (rows v) a → In (rows v) b → triple_of names (link v a) ≡ triple_of names (link v b) → a ≡ b
-    turns_tell tab v a b i j e =
+    entries_tell : IsTable names → (v : ℕ) (a b : RowEntry) → In (rows v) a → In (rows v) b → triple_of names (link v a) ≡ triple_of names (link v b) → a ≡ b
+    entries_tell tab v a b i j e =
         let p = place_of (rows v) a i in
         let q = place_of (rows v) b j in
         let x = known_label names vertices (keys_of places) n (link v b) (link_stands v q.0 b q.1) in
-        side.turn v a b (triple_tells names vertices (keys_of places) n tab (link v a) (link v b) (link_stands v p.0 a p.1) x.0 x.1 e)
+        side.entry v a b (triple_tells names vertices (keys_of places) n tab (link v a) (link v b) (link_stands v p.0 a p.1) x.0 x.1 e)
 
     from_row : (v : ℕ) (z : Triple) → In (map (λ t. triple_of names (link v t)) (rows v)) z → In (filter (λ s. owner_of s == v) (sorted triple_cmp (map (triple_of names) (keys_of places)))) z
     from_row v z i =
@@ -118,7 +118,7 @@ module _ (link : ℕ → Turn → Link) (owner : Link → ℕ) (owner_of : Tripl
         let f = filter_in (λ s. owner_of s == v) (sorted triple_cmp (map (triple_of names) (keys_of places))) z i in
         let k = mapped_in (triple_of names) (keys_of places) z (sorted_in triple_cmp triple_total (map (triple_of names) (keys_of places)) z f.0) in
         let own : owner k.0 ≡ v = sym (side.triple names k.0) ∙ (ap owner_of (sym k.2) ∙ eqb-true (owner_of z) v f.1) in
-        let t = turn_stands k.0 k.1 in
+        let t = entry_stands k.0 k.1 in
         let P : ℕ → Type 0 = λ w. In (map (λ t. triple_of names (link w t)) (rows w)) z in
         let Q : Triple → Type 0 = λ w. In (map (λ t. triple_of names (link (owner k.0) t)) (rows (owner k.0))) w in
         subst P own (subst Q (ap (triple_of names) t.3 ∙ sym k.2)
@@ -127,7 +127,7 @@ module _ (link : ℕ → Turn → Link) (owner : Link → ℕ) (owner_of : Tripl
     -- a row has the triples of its vertex, each once
     row_is : IsTable names → (v : ℕ) → IsPermutation (map (λ t. triple_of names (link v t)) (rows v)) (filter (λ s. owner_of s == v) (sorted triple_cmp (map (triple_of names) (keys_of places))))
     row_is tab v = once_permutation (map (λ t. triple_of names (link v t)) (rows v)) (filter (λ s. owner_of s == v) (sorted triple_cmp (map (triple_of names) (keys_of places))))
-        (once_mapped (λ t. triple_of names (link v t)) (rows v) (turns_once v) (turns_tell tab v))
+        (once_mapped (λ t. triple_of names (link v t)) (rows v) (entries_once v) (entries_tell tab v))
         (ascending_once triple_cmp triple_total (filter (λ s. owner_of s == v) (sorted triple_cmp (map (triple_of names) (keys_of places))))
         (filter-ascending triple_cmp triple_total (λ s. owner_of s == v) (sorted triple_cmp (map (triple_of names) (keys_of places)))
         (sorted_ascending triple_cmp triple_total (map (triple_of names) (keys_of places)))))
@@ -139,14 +139,14 @@ module _ (link : ℕ → Turn → Link) (owner : Link → ℕ) (owner_of : Tripl
         ∙ (sym (length_permutation (map (λ t. triple_of names (link v t)) (rows v)) (filter (λ s. owner_of s == v) (sorted triple_cmp (map (triple_of names) (keys_of places)))) (row_is tab v))
         ∙ length-filter (λ s. owner_of s == v) (sorted triple_cmp (map (triple_of names) (keys_of places))))
 
--- ---- a turn that was read
+-- ---- an entry that was read
 
-module _ (nodes : List (ℕ × Node)) (v : ℕ) (p : Node) (e : lookup (nat_eq v) nodes ≡ Some p) (row : List Turn) (i : ℕ) (t : Turn) (within : i < length row) (read : t ≡ get_or row i t) where
-  pub out_turn : row ≡ p.outs.items → slice_get (outs nodes v) i ≡ Some t
-  out_turn r = ap (λ (o : Option Node). slice_get (outs_of o) i) e ∙ (ap (λ (l : List Turn). slice_get l i) (sym r) ∙ slice_get_read row (length row) i t refl within read)
+module _ (nodes : List (ℕ × Node)) (v : ℕ) (p : Node) (e : lookup (nat_eq v) nodes ≡ Some p) (row : List RowEntry) (i : ℕ) (t : RowEntry) (within : i < length row) (read : t ≡ get_or row i t) where
+  pub out_entry : row ≡ p.outs.items → slice_get (outs nodes v) i ≡ Some t
+  out_entry r = ap (λ (o : Option Node). slice_get (outs_of o) i) e ∙ (ap (λ (l : List RowEntry). slice_get l i) (sym r) ∙ slice_get_read row (length row) i t refl within read)
 
-  pub in_turn : row ≡ p.ins.items → slice_get (ins nodes v) i ≡ Some t
-  in_turn r = ap (λ (o : Option Node). slice_get (ins_of o) i) e ∙ (ap (λ (l : List Turn). slice_get l i) (sym r) ∙ slice_get_read row (length row) i t refl within read)
+  pub in_entry : row ≡ p.ins.items → slice_get (ins nodes v) i ≡ Some t
+  in_entry r = ap (λ (o : Option Node). slice_get (ins_of o) i) e ∙ (ap (λ (l : List RowEntry). slice_get l i) (sym r) ∙ slice_get_read row (length row) i t refl within read)
 
 -- ---- both sides of a store
 
@@ -164,21 +164,21 @@ module _ (names : List (Option Name)) (nodes : List (ℕ × Node)) (places : Lis
   pub in_degree_is : IsTable names → (v : ℕ) → length (ins nodes v) ≡ count_by (λ (t : Triple). t.dst == v) (kept_graph names (map vertex_of nodes) (keys_of places)).triples
   in_degree_is = row_length in_link (λ (k : Link). k.dst) (λ (t : Triple). t.dst) in_side (λ (p : Places). p.in_at) (ins nodes) places h.ins names (map vertex_of nodes) n
 
-  -- the label of a turn is a name, and its other end a vertex
-  pub out_known : (v i : ℕ) (t : Turn) → slice_get (outs nodes v) i ≡ Some t → IsSome (slot names t.label)
-  out_known = turn_known out_link (λ (k : Link). k.src) (λ (t : Triple). t.src) out_side (λ (p : Places). p.out_at) (outs nodes) places h.outs names (map vertex_of nodes) n
+  -- the label of an entry is a name, and its other end a vertex
+  pub out_known : (v i : ℕ) (t : RowEntry) → slice_get (outs nodes v) i ≡ Some t → IsSome (slot names t.label)
+  out_known = entry_known out_link (λ (k : Link). k.src) (λ (t : Triple). t.src) out_side (λ (p : Places). p.out_at) (outs nodes) places h.outs names (map vertex_of nodes) n
 
-  pub in_known : (v i : ℕ) (t : Turn) → slice_get (ins nodes v) i ≡ Some t → IsSome (slot names t.label)
-  in_known = turn_known in_link (λ (k : Link). k.dst) (λ (t : Triple). t.dst) in_side (λ (p : Places). p.in_at) (ins nodes) places h.ins names (map vertex_of nodes) n
+  pub in_known : (v i : ℕ) (t : RowEntry) → slice_get (ins nodes v) i ≡ Some t → IsSome (slot names t.label)
+  in_known = entry_known in_link (λ (k : Link). k.dst) (λ (t : Triple). t.dst) in_side (λ (p : Places). p.in_at) (ins nodes) places h.ins names (map vertex_of nodes) n
 
-  pub out_end : (v i : ℕ) (t : Turn) → slice_get (outs nodes v) i ≡ Some t → IsTrue (has_vertex (kept_graph names (map vertex_of nodes) (keys_of places)) t.other)
+  pub out_end : (v i : ℕ) (t : RowEntry) → slice_get (outs nodes v) i ≡ Some t → IsTrue (has_vertex (kept_graph names (map vertex_of nodes) (keys_of places)) t.other)
   out_end v i t e =
       let k = link_stands out_link (λ (k : Link). k.src) (λ (t : Triple). t.src) out_side (λ (p : Places). p.out_at) (outs nodes) places h.outs v i t e in
-      let s = turn_stands in_link (λ (k : Link). k.dst) (λ (t : Triple). t.dst) in_side (λ (p : Places). p.in_at) (ins nodes) places h.ins (out_link v t) k in
+      let s = entry_stands in_link (λ (k : Link). k.dst) (λ (t : Triple). t.dst) in_side (λ (p : Places). p.in_at) (ins nodes) places h.ins (out_link v t) k in
       has_vertex_of names nodes (keys_of places) t.other ∙ stands_in (lookup (nat_eq t.other) nodes) s.0 (slice_get_within (ins nodes t.other) s.0 s.1 s.2)
 
-  pub in_end : (v i : ℕ) (t : Turn) → slice_get (ins nodes v) i ≡ Some t → IsTrue (has_vertex (kept_graph names (map vertex_of nodes) (keys_of places)) t.other)
+  pub in_end : (v i : ℕ) (t : RowEntry) → slice_get (ins nodes v) i ≡ Some t → IsTrue (has_vertex (kept_graph names (map vertex_of nodes) (keys_of places)) t.other)
   in_end v i t e =
       let k = link_stands in_link (λ (k : Link). k.dst) (λ (t : Triple). t.dst) in_side (λ (p : Places). p.in_at) (ins nodes) places h.ins v i t e in
-      let s = turn_stands out_link (λ (k : Link). k.src) (λ (t : Triple). t.src) out_side (λ (p : Places). p.out_at) (outs nodes) places h.outs (in_link v t) k in
+      let s = entry_stands out_link (λ (k : Link). k.src) (λ (t : Triple). t.src) out_side (λ (p : Places). p.out_at) (outs nodes) places h.outs (in_link v t) k in
       has_vertex_of names nodes (keys_of places) t.other ∙ stands_out (lookup (nat_eq t.other) nodes) s.0 (slice_get_within (outs nodes t.other) s.0 s.1 s.2)

@@ -24,7 +24,7 @@ use Rattle.flux_model.specs.declared.code.Code.TheVariants as code
 use Rattle.graph_traits.proofs.NumberLemmas.{triple_exact, is_equal}
 use Rattle.label_graph.specs.declared.link.Link.{Link}
 use Rattle.label_graph.specs.declared.link.Node.{Node}
-use Rattle.label_graph.specs.declared.link.Turn.{Turn}
+use Rattle.label_graph.specs.declared.link.RowEntry.{RowEntry}
 use Rattle.label_graph.specs.declared.link.Places.{Places}
 use Rattle.label_graph.specs.declared.names.Name.{Name}
 use Rattle.label_graph.specs.Names.{slot, text_at, IsTable, IsUnknown, lowered, uses_of}
@@ -476,11 +476,11 @@ module _ (names names' : List (Option Name)) (vertices vertices' : List Vertex) 
       (ap (sorted triple_cmp) (same_triples links')
       ∙ sym (sorted_same triple_cmp triple_total (map (triple_of names) links) (map (triple_of names) links') (λ a b i j e. triple_exact a b e) (IsPermutation-map (triple_of names) links links' p)))
 
--- ---- a turn of a row has a name
+-- ---- an entry of a row has a name
 
-pub turn_named : (names : List (Option Name)) (nodes : List (ℕ × Node)) (places : List (Link × Places)) → ArePlaced nodes places → IsNamed names (map vertex_of nodes) (keys_of places) →
-    (v i : ℕ) (t : Turn) → slice_get (outs nodes v) i ≡ Some t → IsSome (slot names t.label)
-turn_named names nodes places h n v i t e =
+pub entry_named : (names : List (Option Name)) (nodes : List (ℕ × Node)) (places : List (Link × Places)) → ArePlaced nodes places → IsNamed names (map vertex_of nodes) (keys_of places) →
+    (v i : ℕ) (t : RowEntry) → slice_get (outs nodes v) i ≡ Some t → IsSome (slot names t.label)
+entry_named names nodes places h n v i t e =
     let k : Link = record { src = v; label = t.label; dst = t.other } in
     let place = h.outs.there (v, i) k (ap (option_map (out_link v)) e) in
     let some = IsSome-mapped (λ (p : Places). (k.src, p.out_at)) (lookup (link_eq k) places) (v, i) place in

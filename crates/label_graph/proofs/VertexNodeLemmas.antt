@@ -18,7 +18,7 @@ use Rattle.flux_model.specs.declared.graph.Triple.{Triple}
 use Rattle.label_graph.specs.declared.link.Link.{Link}
 use Rattle.label_graph.specs.declared.link.Node.{Node}
 use Rattle.label_graph.specs.declared.link.Places.{Places}
-use Rattle.label_graph.specs.declared.link.Turn.{Turn}
+use Rattle.label_graph.specs.declared.link.RowEntry.{RowEntry}
 use Rattle.label_graph.specs.declared.names.Name.{Name}
 use Rattle.label_graph.specs.Places.{ArePlaced, link_eq, vertex_of, outs_of, ins_of, outs, ins, out_link, in_link}
 use Rattle.flux_model.specs.Members.{In}
@@ -65,7 +65,7 @@ module _ (id : ℕ) (es fs : List (ℕ × Node)) (set : (q : ℕ) → lookup (na
   none_left = any_vertex fs id ∙ (sym (is_some-lookup (nat_eq id) fs) ∙ (ap is_some (set id) ∙ ap (λ (b : Bool). is_some (cond b None (lookup (nat_eq id) es))) (eq-eqb id id refl)))
 
   -- rows of a vertex that had none
-  rows_left : (rows : Option Node → List Turn) → rows None ≡ [] → rows (lookup (nat_eq id) es) ≡ [] → (q : ℕ) → rows (lookup (nat_eq q) fs) ≡ rows (lookup (nat_eq q) es)
+  rows_left : (rows : Option Node → List RowEntry) → rows None ≡ [] → rows (lookup (nat_eq id) es) ≡ [] → (q : ℕ) → rows (lookup (nat_eq q) fs) ≡ rows (lookup (nat_eq q) es)
   rows_left rows none empty q = by (nat_eq id q) refl
     where
       by : (b : Bool) → nat_eq id q ≡ b → rows (lookup (nat_eq q) fs) ≡ rows (lookup (nat_eq q) es)
@@ -86,7 +86,7 @@ pushed_first es x fs e =
 
 module _ (id : ℕ) (node : Node) (es fs : List (ℕ × Node)) (set : (q : ℕ) → lookup (nat_eq q) fs ≡ cond (nat_eq id q) (Some node) (lookup (nat_eq q) es)) (free : lookup (nat_eq id) es ≡ None) where
   -- rows of a vertex that has none
-  rows_more : (rows : Option Node → List Turn) → rows None ≡ [] → rows (Some node) ≡ [] → (q : ℕ) → rows (lookup (nat_eq q) fs) ≡ rows (lookup (nat_eq q) es)
+  rows_more : (rows : Option Node → List RowEntry) → rows None ≡ [] → rows (Some node) ≡ [] → (q : ℕ) → rows (lookup (nat_eq q) fs) ≡ rows (lookup (nat_eq q) es)
   rows_more rows none empty q = by (nat_eq id q) refl
     where
       by : (b : Bool) → nat_eq id q ≡ b → rows (lookup (nat_eq q) fs) ≡ rows (lookup (nat_eq q) es)
@@ -100,21 +100,21 @@ module _ (id : ℕ) (node : Node) (es fs : List (ℕ × Node)) (set : (q : ℕ) 
 
 -- ---- rows and triples
 
-no_turns : (row : List Turn) → nat_lt 0 (length row) ≡ false → row ≡ []
-no_turns [] e = refl
-no_turns (t ∷ row) e = absurd (true≢false (sym (lt-ltb 0 (length (t ∷ row)) (omega arith)) ∙ e))
+no_entries : (row : List RowEntry) → nat_lt 0 (length row) ≡ false → row ≡ []
+no_entries [] e = refl
+no_entries (t ∷ row) e = absurd (true≢false (sym (lt-ltb 0 (length (t ∷ row)) (omega arith)) ∙ e))
 
-first_turn : (row : List Turn) → nat_lt 0 (length row) ≡ true → (t : Turn) × (slice_get row 0 ≡ Some t)
-first_turn [] e = absurd (true≢false (sym e))
-first_turn (t ∷ row) e = (t, refl)
+first_entry : (row : List RowEntry) → nat_lt 0 (length row) ≡ true → (t : RowEntry) × (slice_get row 0 ≡ Some t)
+first_entry [] e = absurd (true≢false (sym e))
+first_entry (t ∷ row) e = (t, refl)
 
 or_false : (a b : Bool) → a || b ≡ false → (a ≡ false) × (b ≡ false)
 or_false true b e = absurd (true≢false e)
 or_false false b e = (refl, e)
 
--- rows without turns are empty
-pub empty_rows : (outs_row ins_row : List Turn) → nat_lt 0 (length outs_row) || nat_lt 0 (length ins_row) ≡ false → (outs_row ≡ []) × (ins_row ≡ [])
-empty_rows outs_row ins_row e = let p = or_false (nat_lt 0 (length outs_row)) (nat_lt 0 (length ins_row)) e in (no_turns outs_row p.0, no_turns ins_row p.1)
+-- rows without entries are empty
+pub empty_rows : (outs_row ins_row : List RowEntry) → nat_lt 0 (length outs_row) || nat_lt 0 (length ins_row) ≡ false → (outs_row ≡ []) × (ins_row ≡ [])
+empty_rows outs_row ins_row e = let p = or_false (nat_lt 0 (length outs_row)) (nat_lt 0 (length ins_row)) e in (no_entries outs_row p.0, no_entries ins_row p.1)
 
 abbrev is_end : ℕ → Link → Bool
 is_end id k = k.src == id || k.dst == id
@@ -127,12 +127,12 @@ module _ (nodes : List (ℕ × Node)) (places : List (Link × Places)) (h : AreP
       let P : Link → Type 0 = λ z. In (keys_of places) z in
       subst P (sym (link_same k l.0 l.2)) l.1
 
-  out_among : (t : Turn) → slice_get (outs nodes id) 0 ≡ Some t → In (keys_of places) (out_link id t)
+  out_among : (t : RowEntry) → slice_get (outs nodes id) 0 ≡ Some t → In (keys_of places) (out_link id t)
   out_among t e =
       let place = h.outs.there (id, 0) (out_link id t) (ap (option_map (out_link id)) e) in
       among (out_link id t) (IsSome-mapped (λ (p : Places). (id, p.out_at)) (lookup (link_eq (out_link id t)) places) (id, 0) place)
 
-  in_among : (t : Turn) → slice_get (ins nodes id) 0 ≡ Some t → In (keys_of places) (in_link id t)
+  in_among : (t : RowEntry) → slice_get (ins nodes id) 0 ≡ Some t → In (keys_of places) (in_link id t)
   in_among t e =
       let place = h.ins.there (id, 0) (in_link id t) (ap (option_map (in_link id)) e) in
       among (in_link id t) (IsSome-mapped (λ (p : Places). (id, p.in_at)) (lookup (link_eq (in_link id t)) places) (id, 0) place)
@@ -150,13 +150,13 @@ module _ (nodes : List (ℕ × Node)) (places : List (Link × Places)) (h : AreP
     where
       by : (b : Bool) → nat_lt 0 (length (outs nodes id)) ≡ b → b || nat_lt 0 (length (ins nodes id)) ≡ true → list_any (is_end id) (keys_of places) ≡ true
       by true f g =
-          let t = first_turn (outs nodes id) f in
+          let t = first_entry (outs nodes id) f in
           any_in (is_end id) (keys_of places) (out_link id t.0) (out_among t.0 t.1) (true_left (id == id) (t.0.other == id) (eq-eqb id id refl))
       by false f g =
-          let t = first_turn (ins nodes id) g in
+          let t = first_entry (ins nodes id) g in
           any_in (is_end id) (keys_of places) (in_link id t.0) (in_among t.0 t.1) (true_right (t.0.other == id) (id == id) (eq-eqb id id refl))
 
-  -- a link that is among them has a turn in the rows of both of its ends
+  -- a link that is among them has an entry in the rows of both of its ends
   some_place : (k : Link) → In (keys_of places) k → (p : Places) × (lookup (link_eq k) places ≡ Some p)
   some_place k i = by (lookup (link_eq k) places) refl
     where
@@ -164,8 +164,8 @@ module _ (nodes : List (ℕ × Node)) (places : List (Link × Places)) (h : AreP
       by None e = absurd (true≢false (sym (any_in (link_eq k) (keys_of places) k i (link_refl k)) ∙ (sym (is_some-lookup (link_eq k) places) ∙ ap is_some e)))
       by (Some p) e = (p, e)
 
-  not_idle : (row : List Turn) (i : ℕ) (t : Turn) → slice_get row i ≡ Some t → row ≡ [] → ⊥
-  not_idle row i t e empty = let P : List Turn → Type 0 = λ l. slice_get l i ≡ Some t in none-some t (subst P empty e)
+  not_idle : (row : List RowEntry) (i : ℕ) (t : RowEntry) → slice_get row i ≡ Some t → row ≡ [] → ⊥
+  not_idle row i t e empty = let P : List RowEntry → Type 0 = λ l. slice_get l i ≡ Some t in none-some t (subst P empty e)
 
   idle : outs nodes id ≡ [] → ins nodes id ≡ [] → list_any (is_end id) (keys_of places) ≡ false
   idle os is = by (list_any (is_end id) (keys_of places)) refl

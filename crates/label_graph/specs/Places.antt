@@ -3,7 +3,7 @@ use Rattle.std.specs.Prelude.{◌≡◌, ◌≢◌, ℕ, ◌+◌, ◌<◌, ◌&&
 use Rattle.std.specs.Map.{lookup}
 use Rattle.flux_model.specs.declared.graph.Vertex.{Vertex}
 use Rattle.label_graph.specs.declared.link.Link.{Link}
-use Rattle.label_graph.specs.declared.link.Turn.{Turn}
+use Rattle.label_graph.specs.declared.link.RowEntry.{RowEntry}
 use Rattle.label_graph.specs.declared.link.Places.{Places}
 use Rattle.label_graph.specs.declared.link.Node.{Node}
 
@@ -17,33 +17,33 @@ link_eq k l = (k.src == l.src) && ((k.label == l.label) && (k.dst == l.dst))
 
 -- ---- rows
 
-abbrev pub outs_of : Option Node → List Turn
+abbrev pub outs_of : Option Node → List RowEntry
 outs_of None = []
 outs_of (Some p) = p.outs.items
 
-abbrev pub ins_of : Option Node → List Turn
+abbrev pub ins_of : Option Node → List RowEntry
 ins_of None = []
 ins_of (Some p) = p.ins.items
 
-abbrev pub outs : List (ℕ × Node) → ℕ → List Turn
+abbrev pub outs : List (ℕ × Node) → ℕ → List RowEntry
 outs nodes v = outs_of (lookup (nat_eq v) nodes)
 
-abbrev pub ins : List (ℕ × Node) → ℕ → List Turn
+abbrev pub ins : List (ℕ × Node) → ℕ → List RowEntry
 ins nodes v = ins_of (lookup (nat_eq v) nodes)
 
--- the triple of a turn, in the out row of a vertex and in its in row
-abbrev pub out_link : ℕ → Turn → Link
+-- the triple of an entry, in the out row of a vertex and in its in row
+abbrev pub out_link : ℕ → RowEntry → Link
 out_link v t = record { src = v; label = t.label; dst = t.other }
 
-abbrev pub in_link : ℕ → Turn → Link
+abbrev pub in_link : ℕ → RowEntry → Link
 in_link v t = record { src = t.other; label = t.label; dst = v }
 
 -- the triple at a place of rows: a vertex, and a number in its row
-abbrev pub link_at : (ℕ → Turn → Link) → (ℕ → List Turn) → ℕ × ℕ → Option Link
+abbrev pub link_at : (ℕ → RowEntry → Link) → (ℕ → List RowEntry) → ℕ × ℕ → Option Link
 link_at link rows a = option_map (link a.0) (slice_get (rows a.0) a.1)
 
--- a row after its turn at i was taken away and its last turn put there
-pub record IsPulled (i : ℕ) (xs ys : List Turn) : Type 0 where
+-- a row after its entry at i was taken away and its last entry put there
+pub record IsPulled (i : ℕ) (xs ys : List RowEntry) : Type 0 where
   pub shorter : length ys + 1 ≡ length xs
   pub moved : i < length ys → slice_get ys i ≡ slice_get xs (length ys)
   pub others : (k : ℕ) → k ≢ i → k < length ys → slice_get ys k ≡ slice_get xs k
@@ -61,7 +61,7 @@ pub record ArePlaced (nodes : List (ℕ × Node)) (places : List (Link × Places
   pub outs : AreInverse (link_at out_link (outs nodes)) (out_place places)
   pub ins : AreInverse (link_at in_link (ins nodes)) (in_place places)
 
--- ---- room for one more turn
+-- ---- room for one more entry
 
 abbrev pub HasRoomOut : List (ℕ × Node) → ℕ → Type 0
 HasRoomOut nodes v = IsSomeAnd (lookup (nat_eq v) nodes) (λ p. vec_len p.outs < vec_capacity p.outs)

@@ -6,7 +6,7 @@ use Rattle.flux_model.specs.Graph.{Graph, vertex_cmp, triple_cmp}
 use Rattle.flux_model.specs.declared.graph.Vertex.{Vertex}
 use Rattle.flux_model.specs.declared.graph.Triple.{Triple}
 use Rattle.label_graph.specs.declared.link.Link.{Link}
-use Rattle.label_graph.specs.declared.link.Turn.{Turn}
+use Rattle.label_graph.specs.declared.link.RowEntry.{RowEntry}
 use Rattle.label_graph.specs.declared.names.Name.{Name}
 use Rattle.label_graph.specs.Names.{slot, text_at, IsUnknown}
 use Rattle.flux_model.specs.Members.{In}
@@ -31,6 +31,6 @@ pub record IsNamed (names : List (Option Name)) (vertices : List Vertex) (links 
   pub unborne : (text : List ℕ) → IsUnknown names text → count_by (λ v. is_in text_cmp text v.labels) vertices ≡ 0
   pub one_each : (v w : Vertex) → In vertices v → In vertices w → v.id ≡ w.id → v ≡ w
 
--- the triples of a row of turns from a place on
-abbrev pub row_from : List (Option Name) → (Turn → Link) → List Turn → ℕ → List Triple
+-- the triples of a row of entries from a place on
+abbrev pub row_from : List (Option Name) → (RowEntry → Link) → List RowEntry → ℕ → List Triple
 row_from names link row at = map (λ t. triple_of names (link t)) (drop at row)

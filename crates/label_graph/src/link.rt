@@ -11,7 +11,7 @@ pub struct Link {
 
 /// What a row has of a triple: its label and its other end.
 #[derive(Clone, Copy, PartialEq, Eq, Debug)]
-pub struct Turn {
+pub struct RowEntry {
     pub label: u32,
     pub other: u32,
 }
@@ -27,6 +27,6 @@ pub struct Places {
 #[derive(Drop)]
 pub struct Node {
     pub labels: Labels,
-    pub outs: Vec<Turn>,
-    pub ins: Vec<Turn>,
+    pub outs: Vec<RowEntry>,
+    pub ins: Vec<RowEntry>,
 }

@@ -8,7 +8,7 @@ ghost use Rattle.label_graph.specs.Places.{outs, ins, vertex_of, link_eq, ArePla
 ghost use Rattle.label_graph.specs.declared.link.Link.{Link};
 
 use crate::hashed::{Nodes, Standing};
-use crate::link::{Link, Node, Places, Turn};
+use crate::link::{Link, Node, Places, RowEntry};
 use crate::row::{push_in, push_out, reserve_in, reserve_out};
 use crate::step::{leave_in, leave_out};
 use std::alloc::AllocError;
@@ -33,7 +33,7 @@ pub fn join(nodes: &mut Nodes, places: &mut Standing, k: Link) -> Result<(), All
     let out_at = push_out(
         nodes,
         k.src,
-        Turn {
+        RowEntry {
             label: k.label,
             other: k.dst,
         },
@@ -41,7 +41,7 @@ pub fn join(nodes: &mut Nodes, places: &mut Standing, k: Link) -> Result<(), All
     let in_at = push_in(
         nodes,
         k.dst,
-        Turn {
+        RowEntry {
             label: k.label,
             other: k.src,
         },

@@ -4,11 +4,11 @@ ghost use Rattle.std.specs.Map.{lookup, keys_of};
 ghost use Rattle.label_graph.specs.Places.{outs, ins, vertex_of, IsPulled, HasRoomOut, HasRoomIn};
 
 use crate::hashed::Nodes;
-use crate::link::{Node, Turn};
+use crate::link::{Node, RowEntry};
 use std::alloc::AllocError;
 
-/// Takes the turn at this place away and puts the last one there, which is the result if it is another.
-fn pull(row: &mut Vec<Turn>, i: usize) -> Option<Turn>
+/// Takes the entry at this place away and puts the last one there, which is the result if it is another.
+fn pull(row: &mut Vec<RowEntry>, i: usize) -> Option<RowEntry>
     requires { i < length row.old.items }
     ensures row { IsPulled i row.old.items row.new.items }
     ensures moved { result ≡ slice_get row.new.items i }
@@ -17,7 +17,7 @@ fn pull(row: &mut Vec<Turn>, i: usize) -> Option<Turn>
     row.get(i).copied()
 }
 
-/// Makes room for one more turn in an out row.
+/// Makes room for one more entry in an out row.
 #[tactic(auto, using(crate::proofs::NodeLemmas::vertices_kept))]
 pub fn reserve_out(nodes: &mut Nodes, v: u32) -> Result<(), AllocError>
     requires { IsSome (lookup (nat_eq v) nodes.old.entries) }
@@ -31,11 +31,11 @@ pub fn reserve_out(nodes: &mut Nodes, v: u32) -> Result<(), AllocError>
     node.outs.reserve(1)
 }
 
-/// Puts a turn at the end of an out row.
+/// Puts an entry at the end of an out row.
 #[tactic(auto, using(crate::proofs::NodeLemmas::vertices_kept))]
-pub fn push_out(nodes: &mut Nodes, v: u32, turn: Turn) -> usize
+pub fn push_out(nodes: &mut Nodes, v: u32, entry: RowEntry) -> usize
     requires { HasRoomOut nodes.old.entries v }
-    ensures row { outs nodes.new.entries v ≡ outs nodes.old.entries v ++ turn ∷ [] }
+    ensures row { outs nodes.new.entries v ≡ outs nodes.old.entries v ++ entry ∷ [] }
     ensures others { (q : ℕ) → q ≢ v → outs nodes.new.entries q ≡ outs nodes.old.entries q }
     ensures ins { (q : ℕ) → ins nodes.new.entries q ≡ ins nodes.old.entries q }
     ensures vertices { map vertex_of nodes.new.entries ≡ map vertex_of nodes.old.entries }
@@ -45,15 +45,15 @@ pub fn push_out(nodes: &mut Nodes, v: u32, turn: Turn) -> usize
 {
     let node = nodes.get_mut(&v).unwrap();
     let at = node.outs.len();
-    match node.outs.push(turn) {
+    match node.outs.push(entry) {
         Ok(()) => at,
         Err(_) => unreachable!(),
     }
 }
 
-/// Takes a turn of an out row away, and moves the last one there.
+/// Takes an entry of an out row away, and moves the last one there.
 #[tactic(auto, using(crate::proofs::NodeLemmas::vertices_kept))]
-pub fn pull_out(nodes: &mut Nodes, v: u32, i: usize) -> Option<Turn>
+pub fn pull_out(nodes: &mut Nodes, v: u32, i: usize) -> Option<RowEntry>
     requires stands { IsSome (lookup (nat_eq v) nodes.old.entries) }
     requires within { i < length (outs nodes.old.entries v) }
     ensures row { IsPulled i (outs nodes.old.entries v) (outs nodes.new.entries v) }
@@ -67,7 +67,7 @@ pub fn pull_out(nodes: &mut Nodes, v: u32, i: usize) -> Option<Turn>
     pull(&mut node.outs, i)
 }
 
-/// Makes room for one more turn in an in row.
+/// Makes room for one more entry in an in row.
 #[tactic(auto, using(crate::proofs::NodeLemmas::vertices_kept))]
 pub fn reserve_in(nodes: &mut Nodes, v: u32) -> Result<(), AllocError>
     requires { IsSome (lookup (nat_eq v) nodes.old.entries) }
@@ -82,11 +82,11 @@ pub fn reserve_in(nodes: &mut Nodes, v: u32) -> Result<(), AllocError>
     node.ins.reserve(1)
 }
 
-/// Puts a turn at the end of an in row.
+/// Puts an entry at the end of an in row.
 #[tactic(auto, using(crate::proofs::NodeLemmas::vertices_kept))]
-pub fn push_in(nodes: &mut Nodes, v: u32, turn: Turn) -> usize
+pub fn push_in(nodes: &mut Nodes, v: u32, entry: RowEntry) -> usize
     requires { HasRoomIn nodes.old.entries v }
-    ensures row { ins nodes.new.entries v ≡ ins nodes.old.entries v ++ turn ∷ [] }
+    ensures row { ins nodes.new.entries v ≡ ins nodes.old.entries v ++ entry ∷ [] }
     ensures others { (q : ℕ) → q ≢ v → ins nodes.new.entries q ≡ ins nodes.old.entries q }
     ensures outs { (q : ℕ) → outs nodes.new.entries q ≡ outs nodes.old.entries q }
     ensures vertices { map vertex_of nodes.new.entries ≡ map vertex_of nodes.old.entries }
@@ -95,15 +95,15 @@ pub fn push_in(nodes: &mut Nodes, v: u32, turn: Turn) -> usize
 {
     let node = nodes.get_mut(&v).unwrap();
     let at = node.ins.len();
-    match node.ins.push(turn) {
+    match node.ins.push(entry) {
         Ok(()) => at,
         Err(_) => unreachable!(),
     }
 }
 
-/// Takes a turn of an in row away, and moves the last one there.
+/// Takes an entry of an in row away, and moves the last one there.
 #[tactic(auto, using(crate::proofs::NodeLemmas::vertices_kept))]
-pub fn pull_in(nodes: &mut Nodes, v: u32, i: usize) -> Option<Turn>
+pub fn pull_in(nodes: &mut Nodes, v: u32, i: usize) -> Option<RowEntry>
     requires stands { IsSome (lookup (nat_eq v) nodes.old.entries) }
     requires within { i < length (ins nodes.old.entries v) }
     ensures row { IsPulled i (ins nodes.old.entries v) (ins nodes.new.entries v) }

@@ -20,13 +20,13 @@ pub fn leave_out(nodes: &mut Nodes, places: &mut Standing, k: Link, at: usize)
     ensures keys { keys_of nodes.new.entries ≡ keys_of nodes.old.entries }
     ensures links { keys_of places.new.entries ≡ keys_of places.old.entries }
 {
-    if let Some(turn) = pull_out(nodes, k.src, at) {
+    if let Some(entry) = pull_out(nodes, k.src, at) {
         set_out(
             places,
             Link {
                 src: k.src,
-                label: turn.label,
-                dst: turn.other,
+                label: entry.label,
+                dst: entry.other,
             },
             at,
         );
@@ -44,12 +44,12 @@ pub fn leave_in(nodes: &mut Nodes, places: &mut Standing, k: Link, at: usize)
     ensures keys { keys_of nodes.new.entries ≡ keys_of nodes.old.entries }
     ensures links { keys_of places.new.entries ≡ keys_of places.old.entries }
 {
-    if let Some(turn) = pull_in(nodes, k.dst, at) {
+    if let Some(entry) = pull_in(nodes, k.dst, at) {
         set_in(
             places,
             Link {
-                src: turn.other,
-                label: turn.label,
+                src: entry.other,
+                label: entry.label,
                 dst: k.dst,
             },
             at,

@@ -6,7 +6,7 @@ use crate::hashed::Standing;
 use crate::link::{Link, Places};
 use crate::links::{join, part};
 use crate::store::LabelGraph;
-use crate::store::vertices::{bare_node, has_turns, lacks_room, put_node};
+use crate::store::vertices::{bare_node, has_entries, lacks_room, put_node};
 use flux_model::{Code, Labels, Triple};
 use graph_traits::KeepGraph;
 use std::alloc::AllocError;
@@ -39,7 +39,7 @@ impl KeepGraph for LabelGraph {
         if !self.nodes.contains_key(&id) {
             return Err(Code::NoVertex);
         }
-        if has_turns(&self.nodes, id) {
+        if has_entries(&self.nodes, id) {
             return Err(Code::Busy);
         }
         let node = self.nodes.swap_remove(&id).unwrap();

@@ -46,11 +46,11 @@ impl<L: Ledger> ReadGraph<L> for LabelGraph {
 
     fn out_at(&self, v: u32, at: Spot, steps: &mut Steps<L>) -> Option<Turn<'_>> {
         steps.tick();
-        let turn = self.node_at(v, at).outs.get(at.place)?;
+        let entry = self.node_at(v, at).outs.get(at.place)?;
         Some(Turn {
-            label: self.names.text(turn.label),
-            number: turn.label,
-            other: turn.other,
+            label: self.names.text(entry.label),
+            number: entry.label,
+            other: entry.other,
             next: Spot {
                 node: at.node,
                 place: at.place + 1,
@@ -60,11 +60,11 @@ impl<L: Ledger> ReadGraph<L> for LabelGraph {
 
     fn in_at(&self, v: u32, at: Spot, steps: &mut Steps<L>) -> Option<Turn<'_>> {
         steps.tick();
-        let turn = self.node_at(v, at).ins.get(at.place)?;
+        let entry = self.node_at(v, at).ins.get(at.place)?;
         Some(Turn {
-            label: self.names.text(turn.label),
-            number: turn.label,
-            other: turn.other,
+            label: self.names.text(entry.label),
+            number: entry.label,
+            other: entry.other,
             next: Spot {
                 node: at.node,
                 place: at.place + 1,

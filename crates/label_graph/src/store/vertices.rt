@@ -20,8 +20,8 @@ pub fn lacks_room(limit: u64, count: usize, name_limit: u64, names: usize, more:
     limit <= count as u64 || many
 }
 
-/// Whether a row of the vertex has a turn.
-pub fn has_turns(nodes: &Nodes, v: u32) -> bool
+/// Whether a row of the vertex has an entry.
+pub fn has_entries(nodes: &Nodes, v: u32) -> bool
     requires { IsSome (lookup (nat_eq v) nodes.now.entries) }
     ensures { result ≡ (nat_lt 0 (length (outs nodes.now.entries v)) || nat_lt 0 (length (ins nodes.now.entries v))) }
 {

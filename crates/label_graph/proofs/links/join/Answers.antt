@@ -5,7 +5,7 @@ use Rattle.std.proofs.lemmas.List.Sorted.{IsPermutation-trans, IsPermutation-con
 use Rattle.std.proofs.lemmas.Option.{MatchOption-at_none}
 use Rattle.std.proofs.lemmas.Result.{err_from_is_err_and}
 use Rattle.label_graph.specs.declared.link.Link.{Link}
-use Rattle.label_graph.specs.declared.link.Turn.{Turn}
+use Rattle.label_graph.specs.declared.link.RowEntry.{RowEntry}
 use Rattle.label_graph.specs.declared.link.Places.{Places}
 use Rattle.label_graph.specs.Places.{link_eq, outs, ins, out_link, in_link, out_place, in_place, ArePlaced}
 use Rattle.label_graph.proofs.LinkLemmas.{same_placed, set_part}
@@ -54,22 +54,22 @@ returns-clause-placed c =
     let h : ArePlaced c.reserve_in.new.nodes.entries c.reserve.new.self.entries = same_placed c.args.nodes.now.entries c.reserve_in.new.nodes.entries c.args.places.now.entries c.reserve.new.self.entries
     (λ q. c.reserve_in.ensures.outs q ∙ c.reserve_out.ensures.outs q) (λ q. c.reserve_in.ensures.ins q ∙ c.reserve_out.ensures.ins q) c.reserve.ensures.entries.2 c.requires.placed in
     let free : lookup (link_eq c.args.k) c.reserve.new.self.entries ≡ None = c.reserve.ensures.entries.2 c.args.k ∙ c.requires.absent in
-    let out_turn : Turn = record { label = c.args.k.label; other = c.args.k.dst } in
-    let in_turn : Turn = record { label = c.args.k.label; other = c.args.k.src } in
+    let out_entry : RowEntry = record { label = c.args.k.label; other = c.args.k.dst } in
+    let in_entry : RowEntry = record { label = c.args.k.label; other = c.args.k.src } in
     let set = c.in-Ok.ensures.updates.0 in
     record {
-      outs = pushed_placed out_link (outs c.reserve_in.new.nodes.entries) (outs c.push_in-in_at.new.nodes.entries) c.args.k.src out_turn
+      outs = pushed_placed out_link (outs c.reserve_in.new.nodes.entries) (outs c.push_in-in_at.new.nodes.entries) c.args.k.src out_entry
           (c.push_in-in_at.ensures.outs c.args.k.src ∙ c.push_out-out_at.ensures.row)
           (λ q n. c.push_in-in_at.ensures.outs q ∙ c.push_out-out_at.ensures.others q n)
           (out_place c.reserve.new.self.entries) (out_place c.insert.new.self.entries) h.outs
           (ap (option_map (λ (p : Places). (c.args.k.src, p.out_at))) free)
           (λ q. set_part (λ q p. (q.src, p.out_at)) c.reserve.new.self.entries c.insert.new.self.entries c.args.k new c.in-Ok.ensures.updates.0 q
           ∙ ap (λ (n : ℕ). cond (link_eq c.args.k q) (Some (c.args.k.src, n)) (out_place c.reserve.new.self.entries q)) c.push_out-out_at.ensures.place);
-      ins = pushed_placed in_link (ins c.reserve_in.new.nodes.entries) (ins c.push_in-in_at.new.nodes.entries) c.args.k.dst in_turn
-          (c.push_in-in_at.ensures.row ∙ ap (λ (l : List Turn). l ++ in_turn ∷ []) (c.push_out-out_at.ensures.ins c.args.k.dst))
+      ins = pushed_placed in_link (ins c.reserve_in.new.nodes.entries) (ins c.push_in-in_at.new.nodes.entries) c.args.k.dst in_entry
+          (c.push_in-in_at.ensures.row ∙ ap (λ (l : List RowEntry). l ++ in_entry ∷ []) (c.push_out-out_at.ensures.ins c.args.k.dst))
           (λ q n. c.push_in-in_at.ensures.others q n ∙ c.push_out-out_at.ensures.ins q)
           (in_place c.reserve.new.self.entries) (in_place c.insert.new.self.entries) h.ins
           (ap (option_map (λ (p : Places). (c.args.k.dst, p.in_at))) free)
           (λ q. set_part (λ q p. (q.dst, p.in_at)) c.reserve.new.self.entries c.insert.new.self.entries c.args.k new c.in-Ok.ensures.updates.0 q
-          ∙ ap (λ (n : ℕ). cond (link_eq c.args.k q) (Some (c.args.k.dst, n)) (in_place c.reserve.new.self.entries q)) (c.push_in-in_at.ensures.place ∙ ap (λ (l : List Turn). length l) (c.push_out-out_at.ensures.ins c.args.k.dst)));
+          ∙ ap (λ (n : ℕ). cond (link_eq c.args.k q) (Some (c.args.k.dst, n)) (in_place c.reserve.new.self.entries q)) (c.push_in-in_at.ensures.place ∙ ap (λ (l : List RowEntry). length l) (c.push_out-out_at.ensures.ins c.args.k.dst)));
     }

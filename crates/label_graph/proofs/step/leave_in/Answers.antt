@@ -15,15 +15,15 @@ pull_in-requires-clause-stands c = stands_in _ c.args.at (pulled_within in_link 
 
 pub set_in-requires : goal.set_in-requires
 set_in-requires c =
-    let k : Link = record { src = c.in-Some.turn.other; label = c.in-Some.turn.label; dst = c.args.k.dst } in
+    let k : Link = record { src = c.in-Some.entry.other; label = c.in-Some.entry.label; dst = c.args.k.dst } in
     IsSome-mapped (λ (p : Places). (k.dst, p.in_at)) (lookup (link_eq k) c.args.places.now.entries) _
     (moved_stands in_link (ins c.args.nodes.now.entries) (ins c.pull_in.new.nodes.entries) c.args.k.dst c.args.at c.args.k (in_place c.args.places.now.entries) c.requires.placed c.requires.gone
-    c.in-Some.ensures.row c.in-Some.ensures.others c.in-Some.turn (sym c.in-Some.ensures.moved))
+    c.in-Some.ensures.row c.in-Some.ensures.others c.in-Some.entry (sym c.in-Some.ensures.moved))
 
 pub returns-in-Some-clause-placed : goal.returns-in-Some-clause-placed
 returns-in-Some-clause-placed c =
     moved_left in_link (ins c.args.nodes.now.entries) (ins c.pull_in.new.nodes.entries) c.args.k.dst c.args.at c.args.k (in_place c.args.places.now.entries) c.requires.placed c.requires.gone
-    c.in-Some.ensures.row c.in-Some.ensures.others c.in-Some.turn (sym c.in-Some.ensures.moved) (in_place c.set_in.new.places.entries) c.set_in.ensures.ins
+    c.in-Some.ensures.row c.in-Some.ensures.others c.in-Some.entry (sym c.in-Some.ensures.moved) (in_place c.set_in.new.places.entries) c.set_in.ensures.ins
 
 pub returns-in_default-clause-placed : goal.returns-in_default-clause-placed
 returns-in_default-clause-placed c =

@@ -15,15 +15,15 @@ pull_out-requires-clause-stands c = stands_out _ c.args.at (pulled_within out_li
 
 pub set_out-requires : goal.set_out-requires
 set_out-requires c =
-    let k : Link = record { src = c.args.k.src; label = c.in-Some.turn.label; dst = c.in-Some.turn.other } in
+    let k : Link = record { src = c.args.k.src; label = c.in-Some.entry.label; dst = c.in-Some.entry.other } in
     IsSome-mapped (λ (p : Places). (k.src, p.out_at)) (lookup (link_eq k) c.args.places.now.entries) _
     (moved_stands out_link (outs c.args.nodes.now.entries) (outs c.pull_out.new.nodes.entries) c.args.k.src c.args.at c.args.k (out_place c.args.places.now.entries) c.requires.placed c.requires.gone
-    c.in-Some.ensures.row c.in-Some.ensures.others c.in-Some.turn (sym c.in-Some.ensures.moved))
+    c.in-Some.ensures.row c.in-Some.ensures.others c.in-Some.entry (sym c.in-Some.ensures.moved))
 
 pub returns-in-Some-clause-placed : goal.returns-in-Some-clause-placed
 returns-in-Some-clause-placed c =
     moved_left out_link (outs c.args.nodes.now.entries) (outs c.pull_out.new.nodes.entries) c.args.k.src c.args.at c.args.k (out_place c.args.places.now.entries) c.requires.placed c.requires.gone
-    c.in-Some.ensures.row c.in-Some.ensures.others c.in-Some.turn (sym c.in-Some.ensures.moved) (out_place c.set_out.new.places.entries) c.set_out.ensures.out
+    c.in-Some.ensures.row c.in-Some.ensures.others c.in-Some.entry (sym c.in-Some.ensures.moved) (out_place c.set_out.new.places.entries) c.set_out.ensures.out
 
 pub returns-in_default-clause-placed : goal.returns-in_default-clause-placed
 returns-in_default-clause-placed c =

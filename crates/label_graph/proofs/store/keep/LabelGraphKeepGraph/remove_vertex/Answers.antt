@@ -13,23 +13,23 @@ returns-then-not-contains_key-clause-refused c =
     drop_vertex_unknown (kept_graph c.args.self.now.names (map vertex_of c.args.self.now.nodes.entries) (keys_of c.args.self.now.places.entries)) c.args.id
     (has_vertex_of c.args.self.now.names c.args.self.now.nodes.entries (keys_of c.args.self.now.places.entries) c.args.id ∙ (sym c.contains_key.ensures ∙ c.if-not-contains_key.true))
 
-pub returns-then-has_turns-clause-refused : goal.returns-then-has_turns-clause-refused
-returns-then-has_turns-clause-refused c =
+pub returns-then-has_entries-clause-refused : goal.returns-then-has_entries-clause-refused
+returns-then-has_entries-clause-refused c =
     drop_vertex_busy (kept_graph c.args.self.now.names (map vertex_of c.args.self.now.nodes.entries) (keys_of c.args.self.now.places.entries)) c.args.id
     (has_vertex_of c.args.self.now.names c.args.self.now.nodes.entries (keys_of c.args.self.now.places.entries) c.args.id ∙ (sym c.contains_key.ensures ∙ c.if-not-contains_key.false))
     (incident_is c.args.self.now.nodes.entries c.args.self.now.places.entries c.args.self.now.placed c.args.id c.args.self.now.names (map vertex_of c.args.self.now.nodes.entries)
-    ∙ (sym c.has_turns.ensures ∙ c.if-has_turns.true))
+    ∙ (sym c.has_entries.ensures ∙ c.if-has_entries.true))
 
 pub invariant_of-self : goal.invariant_of-self
 invariant_of-self c =
     let found : lookup (nat_eq c.args.id) c.args.self.now.nodes.entries ≡ Some c.unwrap-node.result = sym c.swap_remove.ensures.value ∙ c.unwrap-node.ensures in
     record {
       placed = dropped_placed c.args.self.now.names c.lower_all.new.self c.args.self.now.nodes.entries c.swap_remove.new.self.entries c.args.self.now.places.entries c.args.id c.unwrap-node.result
-          c.args.self.now.placed c.args.self.now.named found (sym c.has_turns.ensures ∙ c.if-has_turns.false) c.swap_remove.ensures.entries c.swap_remove.ensures.updates.0 c.lower_all.ensures;
+          c.args.self.now.placed c.args.self.now.named found (sym c.has_entries.ensures ∙ c.if-has_entries.false) c.swap_remove.ensures.entries c.swap_remove.ensures.updates.0 c.lower_all.ensures;
       named = dropped_named c.args.self.now.names c.lower_all.new.self c.args.self.now.nodes.entries c.swap_remove.new.self.entries c.args.self.now.places.entries c.args.id c.unwrap-node.result
-          c.args.self.now.placed c.args.self.now.named found (sym c.has_turns.ensures ∙ c.if-has_turns.false) c.swap_remove.ensures.entries c.swap_remove.ensures.updates.0 c.lower_all.ensures;
+          c.args.self.now.placed c.args.self.now.named found (sym c.has_entries.ensures ∙ c.if-has_entries.false) c.swap_remove.ensures.entries c.swap_remove.ensures.updates.0 c.lower_all.ensures;
       held = dropped_held c.args.self.now.names c.lower_all.new.self c.args.self.now.nodes.entries c.swap_remove.new.self.entries c.args.self.now.places.entries c.args.id c.unwrap-node.result
-          c.args.self.now.placed c.args.self.now.named found (sym c.has_turns.ensures ∙ c.if-has_turns.false) c.swap_remove.ensures.entries c.swap_remove.ensures.updates.0 c.lower_all.ensures
+          c.args.self.now.placed c.args.self.now.named found (sym c.has_entries.ensures ∙ c.if-has_entries.false) c.swap_remove.ensures.entries c.swap_remove.ensures.updates.0 c.lower_all.ensures
           c.args.self.now.limits c.args.self.now.held;
     }
 
@@ -37,4 +37,4 @@ pub returns-clause-ok : goal.returns-clause-ok
 returns-clause-ok c =
     let found : lookup (nat_eq c.args.id) c.args.self.now.nodes.entries ≡ Some c.unwrap-node.result = sym c.swap_remove.ensures.value ∙ c.unwrap-node.ensures in
     dropped c.args.self.now.names c.lower_all.new.self c.args.self.now.nodes.entries c.swap_remove.new.self.entries c.args.self.now.places.entries c.args.id c.unwrap-node.result
-    c.args.self.now.placed c.args.self.now.named found (sym c.has_turns.ensures ∙ c.if-has_turns.false) c.swap_remove.ensures.entries c.swap_remove.ensures.updates.0 c.lower_all.ensures
+    c.args.self.now.placed c.args.self.now.named found (sym c.has_entries.ensures ∙ c.if-has_entries.false) c.swap_remove.ensures.entries c.swap_remove.ensures.updates.0 c.lower_all.ensures
