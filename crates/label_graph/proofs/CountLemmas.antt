@@ -27,22 +27,26 @@ use Rattle.label_graph.proofs.SortedLemmas.{sorted_ascending, sorted_in, in_sort
 use Rattle.label_graph.proofs.StoreLemmas.{vertex_total, triple_total, self_equal, count_cons, count_in, known_label, known_slot, text_of_slot}
 use Rattle.graph_traits.proofs.NumberLemmas.{triple_exact, is_equal}
 
+-- the texts of the names in use
 abbrev pub text_list : List (Option Name) → List (List ℕ)
 text_list [] = []
 text_list (None ∷ rest) = text_list rest
 text_list (Some x ∷ rest) = x.text ∷ text_list rest
 
+-- there are as many texts as names in use
 pub length_texts : (names : List (Option Name)) → length (text_list names) ≡ count_by is_some names
 length_texts [] = refl
 length_texts (None ∷ rest) = let e = count_cons is_some None rest in let i = length_texts rest in omega arith
 length_texts (Some x ∷ rest) = let e = count_cons is_some (Some x) rest in let i = length_texts rest in omega arith
 
+-- a text of the list is a name in use
 pub texts_in : (names : List (Option Name)) (t : List ℕ) → In (text_list names) t → (n : ℕ) × (x : Name) × (slot names n ≡ Some x) × (x.text ≡ t)
 texts_in [] t i = absurd i
 texts_in (None ∷ rest) t i = let r = texts_in rest t i in (suc r.0, r.1, r.2, r.3)
 texts_in (Some x ∷ rest) t (inl e) = (zero, x, refl, sym e)
 texts_in (Some x ∷ rest) t (inr i) = let r = texts_in rest t i in (suc r.0, r.1, r.2, r.3)
 
+-- a name in use has its text in the list
 pub in_texts : (names : List (Option Name)) (n : ℕ) (x : Name) → slot names n ≡ Some x → In (text_list names) x.text
 in_texts [] n x e = absurd (none-some x e)
 in_texts (None ∷ rest) zero x e = absurd (none-some x e)
@@ -50,6 +54,7 @@ in_texts (None ∷ rest) (suc n) x e = in_texts rest n x e
 in_texts (Some y ∷ rest) zero x e = inl (ap (λ (z : Name). z.text) (sym (same_Some y x e)))
 in_texts (Some y ∷ rest) (suc n) x e = inr (in_texts rest n x e)
 
+-- no text is listed twice
 pub apart_texts : (names : List (Option Name)) → ((m n : ℕ) (x y : Name) → slot names m ≡ Some x → slot names n ≡ Some y → x.text ≡ y.text → m ≡ n) → AreOnce (text_list names)
 apart_texts [] d = tt
 apart_texts (None ∷ rest) d = apart_texts rest (λ m n x y p q e. let s : suc m ≡ suc n = d (suc m) (suc n) x y p q e in omega arith)
@@ -60,10 +65,12 @@ apart_texts (Some z ∷ rest) d = (
 
 -- ---- sets of names
 
+-- what is in a set after names were put into it was in it, or is one of them
 pub in_put_all : (set names : List (List ℕ)) (z : List ℕ) → In (put_all set names) z → In set z ⊎ In names z
 in_put_all set [] z i = inl i
 in_put_all set (n ∷ ns) z i = ⊎_elim (λ j. ⊎_elim (λ e. inr (inl e)) (λ k. inl k) (put_in text_cmp nat_list_cmp_total n set z j)) (λ j. inr (inr j)) (in_put_all (put text_cmp n set) ns z i)
 
+-- and each of these is in it
 pub put_all_in : (set names : List (List ℕ)) (z : List ℕ) → In set z ⊎ In names z → In (put_all set names) z
 put_all_in set [] z (inl i) = i
 put_all_in set [] z (inr i) = absurd i
@@ -71,6 +78,7 @@ put_all_in set (n ∷ ns) z (inl i) = put_all_in (put text_cmp n set) ns z (inl 
 put_all_in set (n ∷ ns) z (inr (inl e)) = put_all_in (put text_cmp n set) ns z (inl (in_put text_cmp nat_list_cmp_total n set (λ y j q. exact_bytes n y q) z (inl e)))
 put_all_in set (n ∷ ns) z (inr (inr i)) = put_all_in (put text_cmp n set) ns z (inr i)
 
+-- a set that names were put into is still in order
 pub put_all_ascending : (set names : List (List ℕ)) → is_ascending text_cmp set ≡ true → is_ascending text_cmp (put_all set names) ≡ true
 put_all_ascending set [] a = a
 put_all_ascending set (n ∷ ns) a = put_all_ascending (put text_cmp n set) ns (put-ascending text_cmp nat_list_cmp_total n set a)
@@ -116,6 +124,7 @@ module _ (names : List (Option Name)) (vertices : List Vertex) (links : List Lin
       let e : unwrap_or (text_at names l.label) [] ≡ x.0.text = ap (λ (o : Option (List ℕ)). unwrap_or o []) (text_of_slot names l.label x.0 x.1) in
       let P : List ℕ → Type 0 = λ z. In (text_list names) z in subst P (sym e) (in_texts names l.label x.0 x.1)
 
+  -- a label name of the graph is a name in use
   pub names_known : (t : List ℕ) → In (names_of (kept_graph names vertices links)) t → In (text_list names) t
   names_known t i = ⊎_elim
       (λ j. let v = in_labels (sorted vertex_cmp vertices) t j in from_vertex t v.0 (sorted_in vertex_cmp vertex_total vertices v.0 v.1) v.2)
@@ -145,6 +154,7 @@ module _ (names : List (Option Name)) (vertices : List Vertex) (links : List Lin
       in_append_left (flat_map (λ (v : Vertex). v.labels) (sorted vertex_cmp vertices)) (map (λ (s : Triple). s.label) (sorted triple_cmp (map (triple_of names) links))) t
       (labels_in (sorted vertex_cmp vertices) v.0 t (in_sorted vertex_cmp vertex_total vertices (λ a b i j q. h.one_each a b i j (exact_unsigned a.id b.id q)) v.0 v.1) (subst P (sym e) y.1))
 
+  -- a name in use is a label name of the graph
   pub known_named : (t : List ℕ) → In (text_list names) t → In (names_of (kept_graph names vertices links)) t
   known_named t i =
       let r = texts_in names t i in
@@ -164,6 +174,7 @@ module _ (names : List (Option Name)) (vertices : List Vertex) (links : List Lin
       (inr (⊎_elim (λ k. in_append_left (names_of (kept_graph names vertices links)) (text ∷ []) z (known_named z k)) (λ e. in_append_right (names_of (kept_graph names vertices links)) (text ∷ []) z (inl e))
       (to z (sorted_in text_cmp nat_list_cmp_total list z i)))))
 
+  -- with one text more, the graph has as many label names as the table, and one more where the text has no number
   pub names_counted : (text : List ℕ) (known : Option ℕ) → MatchOption known (IsUnknown names text) (λ n. text_at names n ≡ Some text) → name_count (kept_graph names vertices links) (text ∷ []) ≡ count_by is_some names + (if is_some known then 0 else 1)
   names_counted text (Some n) found =
       let x = known_slot names n text found in

@@ -29,16 +29,19 @@ module _ (names : List (Option Name)) (es : List (ℕ × Node)) (places : List (
   abbrev pub link : Link
   link = record { src = t.src; label = label; dst = t.dst }
 
+  -- whether a triple stands is whether its link has places
   pub stands : text_at names label ≡ Some t.label → has_triple (kept_graph names (map vertex_of es) (keys_of places)) t ≡ is_some (lookup (link_eq link) places)
   stands found = has_triple_found names (map vertex_of es) (keys_of places) h tab link t.label found ∙ sym (is_some-lookup (link_eq link) places)
 
   module _ (names' : List (Option Name)) (vertices' : List Vertex) (links' : List Link) (others : (q : ℕ) → (q ≡ label → ⊥) → slot names' q ≡ slot names q) (same : vertices' ≡ map vertex_of es) where
+    -- a link less and a use of its label less is the graph without the triple
     pub edge_removed : text_at names label ≡ Some t.label → is_some (lookup (link_eq link) places) ≡ true → IsPermutation (keys_of places) (link ∷ links') → list_any (link_eq link) links' ≡ false →
         slot names' label ≡ lowered (slot names label) → drop_edge (kept_graph names (map vertex_of es) (keys_of places)) t ≡ Ok (kept_graph names' vertices' links')
     edge_removed found there parted gone here =
         drop_edge_done (kept_graph names (map vertex_of es) (keys_of places)) t (both_ends names es (keys_of places) t src dst) (stands found ∙ there)
         ∙ ap okay (removed_graph names names' (map vertex_of es) vertices' (keys_of places) links' link t.label h tab found parted gone here others same)
 
+    -- a link more and a use of its label more is the graph with the triple
     pub edge_added : (limits : Limits) → has_triple (kept_graph names (map vertex_of es) (keys_of places)) t ≡ false →
         nat_le limits.edges (length (kept_graph names (map vertex_of es) (keys_of places)).triples) || nat_lt limits.labels (name_count (kept_graph names (map vertex_of es) (keys_of places)) (t.label ∷ [])) ≡ false →
         MatchOption (slot names label) (IsUnknown names t.label) (λ x. x.text ≡ t.label) → slot names' label ≡ Some (record { text = t.label; uses = uses_of (slot names label) + 1 }) → IsPermutation (link ∷ keys_of places) links' →

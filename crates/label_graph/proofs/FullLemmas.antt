@@ -28,20 +28,25 @@ use Rattle.graph_traits.proofs.NumberLemmas.{triple_exact}
 
 -- ---- the answers of the definition, case by case
 
+-- an end that is no vertex is refused first
 pub add_edge_apart : (limits : Limits) (g : Graph) (t : Triple) → has_both_ends g t ≡ false → add_edge limits g t ≡ Err code.NoVertex
 add_edge_apart limits g t e = rw e refl
 
+-- then a triple that stands
 pub add_edge_stands : (limits : Limits) (g : Graph) (t : Triple) → has_both_ends g t ≡ true → has_triple g t ≡ true → add_edge limits g t ≡ Err code.Exists
 add_edge_stands limits g t e f = rw (e, f) refl
 
+-- then one for which a limit leaves no room
 pub add_edge_full : (limits : Limits) (g : Graph) (t : Triple) → has_both_ends g t ≡ true → has_triple g t ≡ false → nat_le limits.edges (length g.triples) || nat_lt limits.labels (name_count g (t.label ∷ [])) ≡ true → add_edge limits g t ≡ Err code.Full
 add_edge_full limits g t e f n = rw (e, f, n) refl
 
+-- any other is put in
 pub add_edge_done : (limits : Limits) (g : Graph) (t : Triple) → has_both_ends g t ≡ true → has_triple g t ≡ false → nat_le limits.edges (length g.triples) || nat_lt limits.labels (name_count g (t.label ∷ [])) ≡ false → add_edge limits g t ≡ Ok (with_triple g t)
 add_edge_done limits g t e f n = rw (e, f, n) refl
 
 -- ---- by the number of the label
 
+-- whether a triple stands, by the number of its label if it has one
 pub known_triple : (names : List (Option Name)) (vertices : List Vertex) (places : List (Link × Places)) (t : Triple) (known : Option ℕ) → IsNamed names vertices (keys_of places) → IsTable names →
     MatchOption known (IsUnknown names t.label) (λ n. text_at names n ≡ Some t.label) → has_triple (kept_graph names vertices (keys_of places)) t ≡ known_stands places known t.src t.dst
 known_triple names vertices places t None h tab found = has_triple_unknown names vertices (keys_of places) h t found
@@ -49,6 +54,7 @@ known_triple names vertices places t (Some n) h tab found =
     let k : Link = record { src = t.src; label = n; dst = t.dst } in
     has_triple_found names vertices (keys_of places) h tab k t.label found ∙ sym (is_some-lookup (link_eq k) places)
 
+-- what is not some is none
 pub none_from : {X : Type 0} (o : Option X) → is_some o ≡ false → o ≡ None
 none_from None e = refl
 none_from (Some x) e = cc
@@ -93,10 +99,12 @@ distinct_tail : (l : Link) (ls : List Link) → IsDistinct link_eq (l ∷ ls) �
 unfolding IsDistinct
 distinct_tail l ls d = d.1
 
+-- how many label names there would be, by the table and whether the label has a number
 pub name_count_is : (names : List (Option Name)) (vertices : List Vertex) (links : List Link) (text : List ℕ) (known : Option ℕ) → IsNamed names vertices links → IsTable names →
     MatchOption known (IsUnknown names text) (λ n. text_at names n ≡ Some text) → name_count (kept_graph names vertices links) (text ∷ []) ≡ count_by is_some names + (if is_some known then 0 else 1)
 name_count_is names vertices links text known h tab found = names_counted names vertices links h tab text known found
 
+-- the graph has as many triples as there are links
 pub triple_count : (names : List (Option Name)) (vertices : List Vertex) (links : List Link) → IsNamed names vertices links → IsTable names → IsDistinct link_eq links → length (sorted triple_cmp (map (triple_of names) links)) ≡ length links
 triple_count names vertices links h tab apart =
     length_sorted triple_cmp triple_total triple_exact (map (triple_of names) links) (each links (λ l i. i) apart) ∙ length-map links (triple_of names)
@@ -113,6 +121,7 @@ triple_count names vertices links h tab apart =
       each ls (λ m i. f m (inr i)) (distinct_tail l ls d),
     )
 
+-- whether a limit leaves no room, by the counts that the store has
 pub full_is : (limits : Limits) (names : List (Option Name)) (vertices : List Vertex) (links : List Link) (text : List ℕ) (known : Option ℕ) (count : ℕ) (name : ℕ) → IsNamed names vertices links → IsTable names → IsDistinct link_eq links →
     MatchOption known (IsUnknown names text) (λ n. text_at names n ≡ Some text) → count ≡ length links → name ≡ count_by is_some names →
     nat_le limits.edges (length (sorted triple_cmp (map (triple_of names) links))) || nat_lt limits.labels (name_count (kept_graph names vertices links) (text ∷ [])) ≡ nat_le limits.edges count || nat_lt limits.labels (name + (if is_some known then 0 else 1))

@@ -6,6 +6,7 @@ use Rattle.label_graph.specs.Places.{AreInverse}
 abbrev pub CanTell : Type 0 → Type 0
 CanTell A = (x y : A) → (x ≡ y) ⊎ (x ≡ y → ⊥)
 
+-- either of the two is the other read backwards
 pub turned : {A B : Type 0} (f : A → Option B) (g : B → Option A) → AreInverse f g → AreInverse g f
 turned f g h = record { there = h.back; back = h.there }
 
@@ -61,6 +62,7 @@ module _ {A B : Type 0} (tell_a : CanTell A) (tell_b : CanTell B) where
           (tell_b b b0)
 
 module _ {A B : Type 0} (tell_a : CanTell A) (tell_b : CanTell B) where
+  -- one pair more
   pub added : (f f' : A → Option B) (g g' : B → Option A) (a0 : A) (b0 : B) → AreInverse f g → f a0 ≡ None → g b0 ≡ None →
       f' a0 ≡ Some b0 → g' b0 ≡ Some a0 → ((a : A) → (a ≡ a0 → ⊥) → f' a ≡ f a) → ((b : B) → (b ≡ b0 → ⊥) → g' b ≡ g b) → AreInverse f' g'
   added f f' g g' a0 b0 h fn gn fa gb fs gs = record {
@@ -68,6 +70,7 @@ module _ {A B : Type 0} (tell_a : CanTell A) (tell_b : CanTell B) where
     back = added_there tell_b tell_a g g' f f' b0 a0 h.back fn gb fa gs fs;
   }
 
+  -- one pair less
   pub removed : (f f' : A → Option B) (g g' : B → Option A) (a0 : A) (b0 : B) → AreInverse f g → g b0 ≡ Some a0 →
       f' a0 ≡ None → g' b0 ≡ None → ((a : A) → (a ≡ a0 → ⊥) → f' a ≡ f a) → ((b : B) → (b ≡ b0 → ⊥) → g' b ≡ g b) → AreInverse f' g'
   removed f f' g g' a0 b0 h gb fa gn fs gs = record {
@@ -75,6 +78,7 @@ module _ {A B : Type 0} (tell_a : CanTell A) (tell_b : CanTell B) where
     back = removed_there tell_b tell_a g g' f f' b0 a0 h.back (h.back b0 a0 gb) gn gs fs;
   }
 
+  -- one pair less, and another moved to its place
   pub moved : (f f' : A → Option B) (g g' : B → Option A) (a0 a1 : A) (b0 b1 : B) → AreInverse f g → g b0 ≡ Some a0 → g b1 ≡ Some a1 →
       f' a1 ≡ None → f' a0 ≡ Some b1 → g' b0 ≡ None → g' b1 ≡ Some a0 →
       ((a : A) → (a ≡ a0 → ⊥) → (a ≡ a1 → ⊥) → f' a ≡ f a) → ((b : B) → (b ≡ b1 → ⊥) → (b ≡ b0 → ⊥) → g' b ≡ g b) → AreInverse f' g'

@@ -55,6 +55,7 @@ module _ (names : List (Option Name)) (vertices : List Vertex) (links : List Lin
       absurd (none-some w.0.text (sym free ∙ named))
   none_stands free false e = e
 
+  -- whether the link stands is whether its triple does
   pub stands_by : IsTable names → list_any (link_eq k) links ≡ has_triple_by (kept_graph names vertices links) (text_at names k.label) k.src k.dst
   stands_by tab = by (text_at names k.label) refl
     where

@@ -13,15 +13,18 @@ use Rattle.label_graph.proofs.InverseLemmas.{CanTell, added, removed, moved}
 packed : (a b c x y z : ℕ) → a ≡ x → b ≡ y → c ≡ z → ◌≡◌ {A = Link} (record { src = a; label = b; dst = c }) (record { src = x; label = y; dst = z })
 packed a b c x y z p q r = cc
 
+-- links that compare as equal are the same
 pub link_same : (k l : Link) → link_eq k l ≡ true → k ≡ l
 link_same k l h =
     let a = and_parts (k.src == l.src) _ h in
     let b = and_parts (k.label == l.label) _ a.1 in
     packed _ _ _ _ _ _ (eqb-true _ _ a.0) (eqb-true _ _ b.0) (eqb-true _ _ b.1)
 
+-- a link compares as equal to itself
 pub link_refl : (k : Link) → link_eq k k ≡ true
 link_refl k = rw (eq-eqb k.src k.src refl, eq-eqb k.label k.label refl, eq-eqb k.dst k.dst refl) refl
 
+-- links can be told apart
 pub tell_link : CanTell Link
 tell_link k l = by (link_eq k l) refl
   where
@@ -29,12 +32,14 @@ tell_link k l = by (link_eq k l) refl
     by true e = inl (link_same k l e)
     by false e = inr (λ p. let q : link_eq k k ≡ false = subst (λ (x : Link). link_eq k x ≡ false) (sym p) e in let r = link_refl k in cc)
 
+-- places can be told apart
 pub tell_pair : CanTell (ℕ × ℕ)
 tell_pair a b = ⊎_elim (λ p. ⊎_elim (λ q. inl (pair _ _ _ _ p q)) (λ n. inr (λ e. n (ap (λ (x : ℕ × ℕ). x.1) e))) (cases_eq a.1 b.1)) (λ n. inr (λ e. n (ap (λ (x : ℕ × ℕ). x.0) e))) (cases_eq a.0 b.0)
   where
     pair : (x y z w : ℕ) → x ≡ z → y ≡ w → ◌≡◌ {A = ℕ × ℕ} (x, y) (z, w)
     pair x y z w p q = cc
 
+-- links that are not the same do not compare as equal
 pub link_apart : (k l : Link) → (l ≡ k → ⊥) → link_eq k l ≡ false
 link_apart k l n = by (link_eq k l) refl
   where
@@ -67,19 +72,23 @@ pub option_map_some : {X Y : Type 0} (f : X → Y) (o : Option X) (y : Y) → op
 option_map_some f None y h = absurd (none-some y h)
 option_map_some f (Some x) y h = (x, refl, same_Some (f x) y h)
 
+-- what was mapped to some was some
 pub IsSome-mapped : {X Y : Type 0} (f : X → Y) (o : Option X) (y : Y) → option_map f o ≡ Some y → IsSome o
 IsSome-mapped f None y h = absurd (none-some y h)
 IsSome-mapped f (Some x) y h = refl
 
+-- a mapped option is some where the option is
 pub is_some-mapped : {X Y : Type 0} (f : X → Y) (o : Option X) → is_some (option_map f o) ≡ is_some o
 is_some-mapped f None = refl
 is_some-mapped f (Some x) = refl
 
+-- a place within the first list has the same in both joined
 pub slice_get_in : {X : Type 0} (xs ys : List X) (i : ℕ) → i < length xs → slice_get (xs ++ ys) i ≡ slice_get xs i
 slice_get_in [] ys i lt = absurd (omega arith)
 slice_get_in (x ∷ xs) ys zero lt = refl
 slice_get_in (x ∷ xs) ys (suc i) lt = slice_get_in xs ys i (omega arith)
 
+-- what is put behind a list stands at its length
 pub slice_get_pushed : {X : Type 0} (xs : List X) (y : X) → slice_get (xs ++ y ∷ []) (length xs) ≡ Some y
 slice_get_pushed [] y = refl
 slice_get_pushed (x ∷ xs) y = slice_get_pushed xs y
@@ -104,6 +113,7 @@ module _ (link : ℕ → RowEntry → Link) (rows rows' : ℕ → List RowEntry)
       here p = let P : ℕ → Type 0 = λ x. option_map (link a.0) (slice_get (rows' x) a.1) ≡ option_map (link a.0) (slice_get (rows x) a.1) in
           subst P (sym p) (ap (option_map (link a.0)) (entry p))
 
+  -- rows and places belong together after an entry was put behind its row
   pub pushed_placed : (g g' : Link → Option (ℕ × ℕ)) → AreInverse (link_at link rows) g → g (link v t) ≡ None →
       ((q : Link) → g' q ≡ cond (link_eq (link v t) q) (Some (v, length (rows v))) (g q)) → AreInverse (link_at link rows') g'
   pushed_placed g g' h free set =
@@ -121,6 +131,7 @@ module _ (link : ℕ → RowEntry → Link) (rows : ℕ → List RowEntry) (v i 
   at_first : link_at link rows (v, i) ≡ Some k
   at_first = h.back k (v, i) (rw (link_refl k) refl)
 
+  -- the place of a link that stands is within its row
   pub pulled_within : i < length (rows v)
   pulled_within = let x = option_map_some (link v) (slice_get (rows v) i) k at_first in slice_get_within (rows v) i x.0 x.1
 
@@ -167,9 +178,11 @@ module _ (link : ℕ → RowEntry → Link) (rows rows' : ℕ → List RowEntry)
       let s : Some (v, i) ≡ Some (v, length (rows' v)) = rw (link_refl k) at q in
       let u : (v ≡ v) × (i ≡ length (rows' v)) = some_pair_parts v v i (length (rows' v)) s in omega (arith, u.1)
 
+  -- the entry that was moved into the gap was noted at the end of the row
   pub moved_stands : (t : RowEntry) → slice_get (rows' v) i ≡ Some t → p (link v t) ≡ Some (v, length (rows' v))
   moved_stands t some = rw (link_apart k (link v t) (moved_other t some)) at (moved_from t some)
 
+  -- rows and places belong together after an entry left its row and the place of the one that was moved was mended
   pub moved_left : (t : RowEntry) → slice_get (rows' v) i ≡ Some t → (p' : Link → Option (ℕ × ℕ)) →
       ((q : Link) → p' q ≡ cond (link_eq (link v t) q) (Some (v, i)) (p q)) → AreInverse (link_at link rows') p'
   moved_left t some p' set =

@@ -78,9 +78,11 @@ module _ (names : List (Option Name)) (nodes : List (ℕ × Node)) (links : List
   one : (v : ℕ) (p : Node) → lookup (nat_eq v) nodes ≡ Some p → (w : Vertex) → In (sorted vertex_cmp (map vertex_of nodes)) w → (w.id == v) ≡ true → w ≡ record { id = v; labels = p.labels }
   one v p e w i q = n.one_each w (record { id = v; labels = p.labels }) (sorted_in vertex_cmp vertex_total (map vertex_of nodes) w i) (node_in nodes v p e) (eqb-true w.id v q)
 
+  -- the labels of a node are those of the vertex
   pub labels_found : (v : ℕ) (p : Node) → lookup (nat_eq v) nodes ≡ Some p → vertex_of_id (kept_graph names (map vertex_of nodes) links) v ≡ Some (record { id = v; labels = p.labels })
   labels_found v p e = find_one (λ (w : Vertex). w.id == v) (sorted vertex_cmp (map vertex_of nodes)) (record { id = v; labels = p.labels }) (stands v p e) (eq-eqb v v refl) (one v p e)
 
+  -- a vertex has each of the labels where its node has
   pub fits_found : (v : ℕ) (p : Node) (labels : List (List ℕ)) → lookup (nat_eq v) nodes ≡ Some p → fits_labels (kept_graph names (map vertex_of nodes) links) labels v ≡ is_within labels p.labels
   fits_found v p labels e = any_one (λ (w : Vertex). w.id == v) (λ (w : Vertex). is_within labels w.labels) (sorted vertex_cmp (map vertex_of nodes)) (record { id = v; labels = p.labels }) (stands v p e) (eq-eqb v v refl) (one v p e)
 
@@ -112,6 +114,7 @@ vertex_key es v i =
     subst P (sym e.2) (in_mapped (λ (e : ℕ × Node). e.0) es e.0 e.1)
 
 module _ (names : List (Option Name)) (nodes : List (ℕ × Node)) (links : List Link) (n : IsNamed names (map vertex_of nodes) links) (distinct : IsDistinct nat_eq (keys_of nodes)) where
+  -- the ids of the nodes are those of the vertices
   pub ids_listed : IsPermutation (keys_of nodes) (ids (kept_graph names (map vertex_of nodes) links))
   ids_listed = once_permutation (keys_of nodes) (map (λ (v : Vertex). v.id) (sorted vertex_cmp (map vertex_of nodes)))
       (keys_once (keys_of nodes) distinct)
@@ -127,6 +130,7 @@ module _ (names : List (Option Name)) (nodes : List (ℕ × Node)) (links : List
       let P : ℕ → Type 0 = λ m. In (keys_of nodes) m in
       subst P (sym v.2) (vertex_key nodes v.0 (sorted_in vertex_cmp vertex_total (map vertex_of nodes) v.0 v.1)))
 
+  -- there are as many nodes as vertices
   pub vertices_counted : length nodes ≡ length (kept_graph names (map vertex_of nodes) links).vertices
   vertices_counted =
       sym (length-keys_of nodes)
@@ -148,6 +152,7 @@ length_sorted : {X : Type 0} (R : X → X → Ordering) (xs : List X) → length
 length_sorted R [] = omega arith
 length_sorted R (x ∷ xs) = let p = length_put R x (sorted R xs) in let l = length_sorted R xs in omega arith
 
+-- a place among the vertices is one among the nodes
 pub within_nodes : (names : List (Option Name)) (nodes : List (ℕ × Node)) (links : List Link) (i : ℕ) → i < length (kept_graph names (map vertex_of nodes) links).vertices → i < length nodes
 within_nodes names nodes links i lt =
     let l = length_sorted vertex_cmp (map vertex_of nodes) in

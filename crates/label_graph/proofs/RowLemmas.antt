@@ -142,9 +142,11 @@ module _ (link : ℕ → RowEntry → Link) (owner : Link → ℕ) (owner_of : T
 -- ---- an entry that was read
 
 module _ (nodes : List (ℕ × Node)) (v : ℕ) (p : Node) (e : lookup (nat_eq v) nodes ≡ Some p) (row : List RowEntry) (i : ℕ) (t : RowEntry) (within : i < length row) (read : t ≡ get_or row i t) where
+  -- an entry that was read of the list of a node is that of its out row
   pub out_entry : row ≡ p.outs.items → slice_get (outs nodes v) i ≡ Some t
   out_entry r = ap (λ (o : Option Node). slice_get (outs_of o) i) e ∙ (ap (λ (l : List RowEntry). slice_get l i) (sym r) ∙ slice_get_read row (length row) i t refl within read)
 
+  -- an entry that was read of the list of a node is that of its in row
   pub in_entry : row ≡ p.ins.items → slice_get (ins nodes v) i ≡ Some t
   in_entry r = ap (λ (o : Option Node). slice_get (ins_of o) i) e ∙ (ap (λ (l : List RowEntry). slice_get l i) (sym r) ∙ slice_get_read row (length row) i t refl within read)
 
@@ -152,15 +154,19 @@ module _ (nodes : List (ℕ × Node)) (v : ℕ) (p : Node) (e : lookup (nat_eq v
 
 module _ (names : List (Option Name)) (nodes : List (ℕ × Node)) (places : List (Link × Places)) (h : ArePlaced nodes places)
     (n : IsNamed names (map vertex_of nodes) (keys_of places)) where
+  -- the out row of a vertex has the triples that begin there, each once
   pub out_row_is : IsTable names → (v : ℕ) → IsPermutation (row_from names (out_link v) (outs nodes v) 0) (triples_from (kept_graph names (map vertex_of nodes) (keys_of places)) v)
   out_row_is = row_is out_link (λ (k : Link). k.src) (λ (t : Triple). t.src) out_side (λ (p : Places). p.out_at) (outs nodes) places h.outs names (map vertex_of nodes) n
 
+  -- the in row of a vertex has the triples that end there, each once
   pub in_row_is : IsTable names → (v : ℕ) → IsPermutation (row_from names (in_link v) (ins nodes v) 0) (triples_to (kept_graph names (map vertex_of nodes) (keys_of places)) v)
   in_row_is = row_is in_link (λ (k : Link). k.dst) (λ (t : Triple). t.dst) in_side (λ (p : Places). p.in_at) (ins nodes) places h.ins names (map vertex_of nodes) n
 
+  -- the out row is as long as the triples that begin at the vertex are many
   pub out_degree_is : IsTable names → (v : ℕ) → length (outs nodes v) ≡ count_by (λ (t : Triple). t.src == v) (kept_graph names (map vertex_of nodes) (keys_of places)).triples
   out_degree_is = row_length out_link (λ (k : Link). k.src) (λ (t : Triple). t.src) out_side (λ (p : Places). p.out_at) (outs nodes) places h.outs names (map vertex_of nodes) n
 
+  -- the in row is as long as the triples that end at the vertex are many
   pub in_degree_is : IsTable names → (v : ℕ) → length (ins nodes v) ≡ count_by (λ (t : Triple). t.dst == v) (kept_graph names (map vertex_of nodes) (keys_of places)).triples
   in_degree_is = row_length in_link (λ (k : Link). k.dst) (λ (t : Triple). t.dst) in_side (λ (p : Places). p.in_at) (ins nodes) places h.ins names (map vertex_of nodes) n
 
@@ -168,15 +174,18 @@ module _ (names : List (Option Name)) (nodes : List (ℕ × Node)) (places : Lis
   pub out_known : (v i : ℕ) (t : RowEntry) → slice_get (outs nodes v) i ≡ Some t → IsSome (slot names t.label)
   out_known = entry_known out_link (λ (k : Link). k.src) (λ (t : Triple). t.src) out_side (λ (p : Places). p.out_at) (outs nodes) places h.outs names (map vertex_of nodes) n
 
+  -- the label of an entry of an in row is a name
   pub in_known : (v i : ℕ) (t : RowEntry) → slice_get (ins nodes v) i ≡ Some t → IsSome (slot names t.label)
   in_known = entry_known in_link (λ (k : Link). k.dst) (λ (t : Triple). t.dst) in_side (λ (p : Places). p.in_at) (ins nodes) places h.ins names (map vertex_of nodes) n
 
+  -- the other end of an entry of an out row is a vertex
   pub out_end : (v i : ℕ) (t : RowEntry) → slice_get (outs nodes v) i ≡ Some t → IsTrue (has_vertex (kept_graph names (map vertex_of nodes) (keys_of places)) t.other)
   out_end v i t e =
       let k = link_stands out_link (λ (k : Link). k.src) (λ (t : Triple). t.src) out_side (λ (p : Places). p.out_at) (outs nodes) places h.outs v i t e in
       let s = entry_stands in_link (λ (k : Link). k.dst) (λ (t : Triple). t.dst) in_side (λ (p : Places). p.in_at) (ins nodes) places h.ins (out_link v t) k in
       has_vertex_of names nodes (keys_of places) t.other ∙ stands_in (lookup (nat_eq t.other) nodes) s.0 (slice_get_within (ins nodes t.other) s.0 s.1 s.2)
 
+  -- the other end of an entry of an in row is a vertex
   pub in_end : (v i : ℕ) (t : RowEntry) → slice_get (ins nodes v) i ≡ Some t → IsTrue (has_vertex (kept_graph names (map vertex_of nodes) (keys_of places)) t.other)
   in_end v i t e =
       let k = link_stands in_link (λ (k : Link). k.dst) (λ (t : Triple). t.dst) in_side (λ (p : Places). p.in_at) (ins nodes) places h.ins v i t e in

@@ -15,5 +15,6 @@ module _ (names names' : List (Option Name)) (slots : (q : ℕ) → slot names' 
   same_entries link [] = refl
   same_entries link (t ∷ row) = rw (same_triple (link t), same_entries link row) refl
 
+  -- a row means the same triples from each place on
   pub same_row : (link : RowEntry → Link) (row row' : List RowEntry) (at : ℕ) → row' ≡ row → row_from names' link row' at ≡ row_from names link row at
   same_row link row row' at e = ap (λ (r : List RowEntry). row_from names' link r at) e ∙ same_entries link (drop at row)

@@ -23,12 +23,15 @@ use Rattle.label_graph.proofs.TableLemmas.{same_name}
 
 -- ---- sets
 
+-- texts that compare as equal are the same
 pub same_text : (t u : List ℕ) → is_eq (text_cmp t u) ≡ true → t ≡ u
 same_text t u e = exact_bytes t u (is_equal (text_cmp t u) e)
 
+-- a text compares as equal to itself
 pub own_text : (t : List ℕ) → is_eq (text_cmp t t) ≡ true
 own_text t = ap is_eq (self_equal text_cmp nat_list_cmp_total t)
 
+-- texts that are not the same do not compare as equal
 pub other_text : (t u : List ℕ) → (t ≡ u → ⊥) → is_eq (text_cmp t u) ≡ false
 other_text t u n = by (is_eq (text_cmp t u)) refl
   where
@@ -36,16 +39,20 @@ other_text t u n = by (is_eq (text_cmp t u)) refl
     by true e = absurd (n (same_text t u e))
     by false e = e
 
+-- the first text of a set is in it
 pub first_in : (t : List ℕ) (rest : List (List ℕ)) → is_in text_cmp t (t ∷ rest) ≡ true
 first_in t rest = rw (own_text t) refl
 
+-- a text that is not the first of a set is in it where it is in the rest
 pub other_in : (t u : List ℕ) (rest : List (List ℕ)) → (t ≡ u → ⊥) → is_in text_cmp t (u ∷ rest) ≡ is_in text_cmp t rest
 other_in t u rest n = rw (other_text t u n) refl
 
+-- what is found in a set is in it
 pub in_set : (t : List ℕ) (set : List (List ℕ)) → is_in text_cmp t set ≡ true → In set t
 in_set t set e = let y = in_any (λ z. is_eq (text_cmp t z)) set e in
     let P : List ℕ → Type 0 = λ z. In set z in subst P (sym (same_text t y.0 y.2)) y.1
 
+-- the first text of a set does not come again
 pub not_later : (t : List ℕ) (rest : List (List ℕ)) → is_ascending text_cmp (t ∷ rest) ≡ true → is_in text_cmp t rest ≡ false
 not_later t rest a = by (is_in text_cmp t rest) refl
   where
@@ -63,6 +70,7 @@ ascending_left set zero a = a
 ascending_left [] (suc i) a = a
 ascending_left (t ∷ rest) (suc i) a = ascending_left rest i (tail_ascending text_cmp nat_list_cmp_total t rest a)
 
+-- a text of a set does not come again behind its place
 pub not_left : (set : List (List ℕ)) (i : ℕ) (t : List ℕ) → is_ascending text_cmp set ≡ true → slice_get set i ≡ Some t → is_in text_cmp t (drop (i + 1) set) ≡ false
 not_left set i t a e =
     let P : List (List ℕ) → Type 0 = λ l. is_ascending text_cmp l ≡ true in
@@ -70,12 +78,15 @@ not_left set i t a e =
 
 -- ---- raised
 
+-- a name whose text is in the set is used once more
 pub raised_here : (set : List (List ℕ)) (x : Name) → is_in text_cmp x.text set ≡ true → raised_in set x ≡ record x { uses = x.uses + 1 }
 raised_here set x e = rw e refl
 
+-- a name whose text is not in the set stays
 pub raised_apart : (set : List (List ℕ)) (x : Name) → is_in text_cmp x.text set ≡ false → raised_in set x ≡ x
 raised_apart set x e = rw e refl
 
+-- a name keeps its text
 pub raised_text : (set : List (List ℕ)) (x : Name) → (raised_in set x).text ≡ x.text
 raised_text set x = by (is_in text_cmp x.text set) refl
   where
@@ -165,9 +176,11 @@ module _ (t : List ℕ) (rest : List (List ℕ)) (old mid new : List (Option Nam
 
 -- ---- lowered
 
+-- a name whose text is in the set is used once less
 pub lowered_here : (set : List (List ℕ)) (x : Name) → is_in text_cmp x.text set ≡ true → lowered_in set (Some x) ≡ lowered (Some x)
 lowered_here set x e = rw e refl
 
+-- a name whose text is not in the set stays
 pub lowered_apart : (set : List (List ℕ)) (x : Name) → is_in text_cmp x.text set ≡ false → lowered_in set (Some x) ≡ Some x
 lowered_apart set x e = rw e refl
 
@@ -219,11 +232,13 @@ lowered_unknown t names unknown q = by (slot names q) refl
 
 -- ---- known
 
+-- a text that no number stands for is not known
 pub known_none : (names : List (Option Name)) (t : List ℕ) → IsUnknown names t → is_known names t ≡ false
 known_none [] t unknown = refl
 known_none (None ∷ rest) t unknown = known_none rest t (λ n. unknown (suc n))
 known_none (Some x ∷ rest) t unknown = rw (other_text t x.text (λ s. unknown zero (ap Some (sym s)))) (known_none rest t (λ n. unknown (suc n)))
 
+-- a text that a number stands for is known
 pub known_some : (names : List (Option Name)) (n : ℕ) (t : List ℕ) → text_at names n ≡ Some t → is_known names t ≡ true
 known_some [] n t e = absurd (none-some t e)
 known_some (None ∷ rest) zero t e = absurd (none-some t e)
@@ -242,6 +257,7 @@ pub known_is : (names : List (Option Name)) (t : List ℕ) (found : Option ℕ) 
 known_is names t None unknown = known_none names t unknown
 known_is names t (Some n) e = known_some names n t e
 
+-- a test and its opposite, read the other way
 pub other_way : (a b : Bool) → not a ≡ b → a ≡ not b
 other_way true b e = rw (sym e) refl
 other_way false b e = rw (sym e) refl
@@ -254,6 +270,7 @@ count_more p set i count more t at e m c =
     let n = count_by_more_yes p set i t (slice_get_within set i t at) (ap p here ∙ e) in
     omega (arith, c, m, n)
 
+-- a count stays behind a text that fails the test
 pub count_same : (p : List ℕ → Bool) (set : List (List ℕ)) (i count more : ℕ) (t : List ℕ) → slice_get set i ≡ Some t → p t ≡ false → more ≡ count → count ≡ count_by p (take i set) →
     more ≡ count_by p (take (i + 1) set)
 count_same p set i count more t at e m c =
@@ -261,6 +278,7 @@ count_same p set i count more t at e m c =
     let n = count_by_more_no p set i t (slice_get_within set i t at) (ap p here ∙ e) in
     omega (arith, c, m, n)
 
+-- a known text has a number
 pub known_at : (names : List (Option Name)) (t : List ℕ) → is_known names t ≡ true → (n : ℕ) × (text_at names n ≡ Some t)
 known_at [] t e = cc
 known_at (None ∷ rest) t e = let r = known_at rest t e in (suc r.0, r.1)
@@ -270,5 +288,6 @@ known_at (Some x ∷ rest) t e = by (is_eq (text_cmp t x.text)) refl (known_at r
     by true f ih = (zero, ap Some (sym (same_text t x.text f)))
     by false f ih = let r = ih (rw f at e) in (suc r.0, r.1)
 
+-- no number stands for a text that is not known
 pub unknown_is : (names : List (Option Name)) (t : List ℕ) → is_known names t ≡ false → IsUnknown names t
 unknown_is names t e n f = true≢false (sym (known_some names n t f) ∙ e)

@@ -41,12 +41,15 @@ use Rattle.label_graph.proofs.SortedLemmas.{sorted_ascending, sorted_in, in_sort
 
 -- ---- the orders
 
+-- vertices are ordered by their ids
 pub vertex_total : IsTotalOrder vertex_cmp
 vertex_total = on_total (λ (v : Vertex). v.id) nat_cmp_total
 
+-- triples are ordered by source, label and target
 pub triple_total : IsTotalOrder triple_cmp
 triple_total = then_total (on_total (λ (t : Triple). t.src) nat_cmp_total) (then_total (on_total (λ (t : Triple). t.label) nat_list_cmp_total) (on_total (λ (t : Triple). t.dst) nat_cmp_total))
 
+-- each element is equal to itself in an order
 pub self_equal : {X : Type 0} (R : X → X → Ordering) → IsTotalOrder R → (x : X) → R x x ≡ Equal
 self_equal R o x = by (R x x) (o.antisymm x x)
   where
@@ -57,12 +60,15 @@ self_equal R o x = by (R x x) (o.antisymm x x)
 
 -- ---- counts
 
+-- a list counts its first element and its rest
 pub count_cons : {X : Type 0} (p : X → Bool) (x : X) (xs : List X) → count_by p (x ∷ xs) ≡ cond (p x) 1 0 + count_by p xs
 count_cons p x xs = sum_by-cons (λ y. cond (p y) 1 0) x xs
 
+-- a list counts the same in another order
 pub count_permutation : {X : Type 0} (p : X → Bool) (xs ys : List X) → IsPermutation xs ys → count_by p ys ≡ count_by p xs
 count_permutation p xs ys h = sum_by-IsPermutation (λ y. cond (p y) 1 0) xs ys h
 
+-- an element that passes a test is counted
 pub count_in : {X : Type 0} (p : X → Bool) (xs : List X) (x : X) → In xs x → p x ≡ true → 0 < count_by p xs
 count_in p [] x i h = absurd i
 count_in {X} p (y ∷ ys) x (inl e) h = let q : p y ≡ true = (let P : X → Type 0 = λ z. p z ≡ true in subst P e h) in rw (count_cons p y ys, q) (omega arith)
@@ -73,10 +79,12 @@ count_in p (y ∷ ys) x (inr i) h = let r = count_in p ys x i h in omega (arith,
 same_id : (a b : ℕ) → (a == b) ≡ (b == a)
 same_id a b = nat_eq_equiv.symm a b
 
+-- the vertices of the nodes have the ids of the nodes
 pub any_vertex : (es : List (ℕ × Node)) (id : ℕ) → list_any (λ (v : Vertex). v.id == id) (map vertex_of es) ≡ list_any (nat_eq id) (keys_of es)
 any_vertex [] id = refl
 any_vertex (e ∷ es) id = rw (same_id e.0 id, any_vertex es id) refl
 
+-- an id is a vertex where it has a node
 pub has_vertex_of : (names : List (Option Name)) (es : List (ℕ × Node)) (links : List Link) (id : ℕ) → has_vertex (kept_graph names (map vertex_of es) links) id ≡ is_some (lookup (nat_eq id) es)
 has_vertex_of names es links id =
     any_sorted vertex_cmp vertex_total (λ (v : Vertex). v.id == id) (λ x y e. ap (λ (n : ℕ). n == id) (exact_unsigned x.id y.id e)) (map vertex_of es)
@@ -90,9 +98,11 @@ known_label names vertices links h k i = by (slot names k.label) refl
     by None e = let z = h.unused k.label e in let c = count_in (λ (l : Link). l.label == k.label) links k i (eq-eqb k.label k.label refl) in absurd (omega arith)
     by (Some x) e = (x, e)
 
+-- a number stands for the text of its name
 pub text_of_slot : (names : List (Option Name)) (n : ℕ) (x : Name) → slot names n ≡ Some x → text_at names n ≡ Some x.text
 text_of_slot names n x e = ap (option_map (λ (y : Name). y.text)) e
 
+-- a text has one number at most
 pub one_number : (names : List (Option Name)) → IsTable names → (m n : ℕ) (text : List ℕ) → text_at names m ≡ Some text → text_at names n ≡ Some text → m ≡ n
 one_number names t m n text p q =
     let a = option_map_some (λ (y : Name). y.text) (slot names m) text p in
@@ -114,6 +124,7 @@ triple_tells names vertices links h t k l i x e same =
 equal_respects : (t x y : Triple) → triple_cmp x y ≡ Equal → is_eq (triple_cmp t x) ≡ is_eq (triple_cmp t y)
 equal_respects t x y e = let P : Triple → Type 0 = λ z. is_eq (triple_cmp t x) ≡ is_eq (triple_cmp t z) in subst P (triple_exact x y e) refl
 
+-- a triple stands where a link means it
 pub any_triple : (names : List (Option Name)) (vertices : List Vertex) (links : List Link) (t : Triple) → has_triple (kept_graph names vertices links) t ≡ list_any (λ s. is_eq (triple_cmp t s)) (map (triple_of names) links)
 any_triple names vertices links t = any_sorted triple_cmp triple_total (λ s. is_eq (triple_cmp t s)) (equal_respects t) (map (triple_of names) links)
 
@@ -137,6 +148,7 @@ has_triple_known names vertices links h tab k x e = any_triple names vertices li
     each [] f = refl
     each (l ∷ ls) f = rw (one l (f l (inl refl)) (link_eq k l) refl, each ls (λ m i. f m (inr i))) refl
 
+-- no triple has a label that no number stands for
 pub has_triple_unknown : (names : List (Option Name)) (vertices : List Vertex) (links : List Link) → IsNamed names vertices links → (t : Triple) → IsUnknown names t.label → has_triple (kept_graph names vertices links) t ≡ false
 has_triple_unknown names vertices links h t unknown = any_triple names vertices links t ∙ each links (λ l i. i)
   where
@@ -157,9 +169,11 @@ has_triple_unknown names vertices links h t unknown = any_triple names vertices 
 pub known_slot : (names : List (Option Name)) (n : ℕ) (text : List ℕ) → text_at names n ≡ Some text → (x : Name) × (slot names n ≡ Some x) × (x.text ≡ text)
 known_slot names n text e = option_map_some (λ (y : Name). y.text) (slot names n) text e
 
+-- what a link means, by the text of its label
 pub triple_is : (names : List (Option Name)) (k : Link) (text : List ℕ) → text_at names k.label ≡ Some text → triple_of names k ≡ record { src = k.src; label = text; dst = k.dst }
 triple_is names k text e = ap (λ (o : Option (List ℕ)). record { src = k.src; label = unwrap_or o []; dst = k.dst }) e
 
+-- a triple stands where the link with the number of its label does
 pub has_triple_found : (names : List (Option Name)) (vertices : List Vertex) (links : List Link) → IsNamed names vertices links → IsTable names → (k : Link) (text : List ℕ) → text_at names k.label ≡ Some text →
     has_triple (kept_graph names vertices links) (record { src = k.src; label = text; dst = k.dst }) ≡ list_any (link_eq k) links
 has_triple_found names vertices links h tab k text e =
@@ -169,6 +183,7 @@ has_triple_found names vertices links h tab k text e =
 
 -- ---- a triple less
 
+-- a name goes with its last use, and else has one use less
 pub lowered_cases : (x : Name) → ((lowered (Some x) ≡ None) × (x.uses ≤ 1)) ⊎ ((lowered (Some x) ≡ Some (record x { uses = x.uses - 1 })) × (1 < x.uses))
 lowered_cases x = ⊎_elim (λ l. inr (rw (lt-leb x.uses 1 l) refl, l)) (λ l. inl (rw (le-leb x.uses 1 l) refl, l)) (cases_lt 1 x.uses)
 
@@ -223,6 +238,7 @@ module _ (names names' : List (Option Name)) (vertices : List Vertex) (links lin
       (λ d. unknown m (ap (option_map (λ (y : Name). y.text)) (others m d) ∙ e)) (cases_eq m k.label)))
       (tell_text x.text text)
 
+  -- names, vertices and links belong together after a link went
   pub named_left : IsNamed names' vertices links'
   named_left = record {
     counted = λ q y e. ⊎_elim
@@ -276,6 +292,7 @@ module _ (names names' : List (Option Name)) (vertices : List Vertex) (links lin
   goes : not (is_eq (triple_cmp (triple_of names k) (triple_of names k))) ≡ false
   goes = rw (self_equal triple_cmp triple_total (triple_of names k)) refl
 
+  -- the triples without that of a link are those of the other links
   pub triples_without : filter (λ s. not (is_eq (triple_cmp s (triple_of names k)))) (sorted triple_cmp (map (triple_of names) links)) ≡ sorted triple_cmp (map (triple_of names') links')
   triples_without =
       let test : Triple → Bool = λ s. not (is_eq (triple_cmp s (triple_of names k))) in
@@ -304,12 +321,15 @@ module _ (names names' : List (Option Name)) (vertices : List Vertex) (links lin
 
 -- ---- the answers of the definition, case by case
 
+-- an end that is no vertex is refused first
 pub drop_edge_apart : (g : Graph) (t : Triple) → has_both_ends g t ≡ false → drop_edge g t ≡ Err code.NoVertex
 drop_edge_apart g t e = rw e refl
 
+-- then a triple that does not stand
 pub drop_edge_absent : (g : Graph) (t : Triple) → has_both_ends g t ≡ true → has_triple g t ≡ false → drop_edge g t ≡ Err code.Absent
 drop_edge_absent g t e f = rw (e, f) refl
 
+-- any other is taken away
 pub drop_edge_done : (g : Graph) (t : Triple) → has_both_ends g t ≡ true → has_triple g t ≡ true → drop_edge g t ≡ Ok (without_triple g t)
 drop_edge_done g t e f = rw (e, f) refl
 
@@ -321,18 +341,22 @@ and_right_false true c e = e
 and_right_false false c e = refl
 
 module _ (names : List (Option Name)) (es : List (ℕ × Node)) (links : List Link) (t : Triple) where
+  -- a source without a node is no vertex
   pub no_src : is_some (lookup (nat_eq t.src) es) ≡ false → has_both_ends (kept_graph names (map vertex_of es) links) t ≡ false
   no_src e = and_left_false _ _ (has_vertex_of names es links t.src ∙ e)
 
+  -- a target without a node is no vertex
   pub no_dst : is_some (lookup (nat_eq t.dst) es) ≡ false → has_both_ends (kept_graph names (map vertex_of es) links) t ≡ false
   no_dst e = and_right_false (has_vertex (kept_graph names (map vertex_of es) links) t.src) _ (has_vertex_of names es links t.dst ∙ e)
 
+  -- ends with nodes are vertices
   pub both_ends : is_some (lookup (nat_eq t.src) es) ≡ true → is_some (lookup (nat_eq t.dst) es) ≡ true → has_both_ends (kept_graph names (map vertex_of es) links) t ≡ true
   both_ends e f =
       let a : has_vertex (kept_graph names (map vertex_of es) links) t.src ≡ true = has_vertex_of names es links t.src ∙ e in
       let b : has_vertex (kept_graph names (map vertex_of es) links) t.dst ≡ true = has_vertex_of names es links t.dst ∙ f in
       and_from _ _ a b
 
+-- graphs of the same vertices and triples are the same
 pub same_graph : (a c : List Vertex) (b d : List Triple) → a ≡ c → b ≡ d → ◌≡◌ {A = Graph} (record { vertices = a; triples = b }) (record { vertices = c; triples = d })
 same_graph a c b d p q = cc
 
@@ -340,11 +364,13 @@ module _ (names names' : List (Option Name)) (vertices vertices' : List Vertex) 
     (h : IsNamed names vertices links) (tab : IsTable names) (found : text_at names k.label ≡ Some text) (p : IsPermutation links (k ∷ links'))
     (gone : list_any (link_eq k) links' ≡ false) (here : slot names' k.label ≡ lowered (slot names k.label))
     (others : (q : ℕ) → (q ≡ k.label → ⊥) → slot names' q ≡ slot names q) (same : vertices' ≡ vertices) where
+  -- the same, where the vertices were written another way
   pub removed_named : IsNamed names' vertices' links'
   removed_named = let x = known_slot names k.label text found in
       let P : List Vertex → Type 0 = λ vs. IsNamed names' vs links' in
       subst P (sym same) (named_left names names' vertices links links' k x.0 h tab x.1 p gone here others)
 
+  -- a link less is the graph without its triple
   pub removed_graph : without_triple (kept_graph names vertices links) (record { src = k.src; label = text; dst = k.dst }) ≡ kept_graph names' vertices' links'
   removed_graph = let x = known_slot names k.label text found in
       let P : Triple → Type 0 = λ t. without_triple (kept_graph names vertices links) t ≡ kept_graph names' vertices' links' in
@@ -382,6 +408,7 @@ module _ (names names' : List (Option Name)) (vertices : List Vertex) (links lin
       let d = more_here p in
       subst P f (omega (arith, c, d))
 
+  -- names, vertices and links belong together after a link came
   pub named_added : IsPermutation (k ∷ links) links' → IsNamed names' vertices links'
   named_added p = record {
     counted = λ q y e. ⊎_elim
@@ -422,6 +449,7 @@ module _ (names names' : List (Option Name)) (vertices : List Vertex) (links lin
       let t : triple_of names' l ≡ triple_of names l = ap (λ (o : Option (List ℕ)). record { src = l.src; label = unwrap_or o []; dst = l.dst }) (text_stays l (f l (inl refl))) in
       rw (t, triples_stay ls (λ m i. f m (inr i))) refl
 
+  -- a link more is the graph with its triple
   pub added_graph : IsPermutation (k ∷ links) links' → (vertices' : List Vertex) → vertices' ≡ vertices →
       with_triple (kept_graph names vertices links) (record { src = k.src; label = text; dst = k.dst }) ≡ kept_graph names' vertices' links'
   added_graph p vertices' same =
@@ -443,6 +471,7 @@ lowered_back (Some x) text h =
     let big : nat_le (x.uses + 1) 1 ≡ false = lt-leb (x.uses + 1) 1 (let p = u.0 in omega arith) in
     rw big (ap Some (same_name text x.text (x.uses + 1 - 1) x.uses (sym u.1) (omega arith)))
 
+-- a name that was used once more and then once less stands as before
 pub back_same : (names names' names'' : List (Option Name)) (n : ℕ) (text : List ℕ) → IsTable names → MatchOption (slot names n) (IsUnknown names text) (λ x. x.text ≡ text) →
     slot names' n ≡ Some (record { text = text; uses = uses_of (slot names n) + 1 }) → ((q : ℕ) → (q ≡ n → ⊥) → slot names' q ≡ slot names q) →
     slot names'' n ≡ lowered (slot names' n) → ((q : ℕ) → (q ≡ n → ⊥) → slot names'' q ≡ slot names' q) → (q : ℕ) → slot names'' q ≡ slot names q
@@ -454,6 +483,7 @@ back_same names names' names'' n text tab was here others low rest q = ⊎_elim
 
 module _ (names names' : List (Option Name)) (vertices vertices' : List Vertex) (links links' : List Link) (slots : (q : ℕ) → slot names' q ≡ slot names q)
     (same : vertices' ≡ vertices) (p : IsPermutation links links') where
+  -- names that stand for what they stood for keep belonging to the vertices and links
   pub same_named : IsNamed names vertices links → IsNamed names' vertices' links'
   same_named h =
       let P : List Vertex → Type 0 = λ vs. IsNamed names' vs links' in
@@ -470,6 +500,7 @@ module _ (names names' : List (Option Name)) (vertices vertices' : List Vertex) 
       let t : triple_of names' l ≡ triple_of names l = ap (λ (o : Option Name). record { src = l.src; label = unwrap_or (option_map (λ (y : Name). y.text) o) []; dst = l.dst }) (slots l.label) in
       rw (t, same_triples ls) refl
 
+  -- and mean the same graph with them
   pub same_graph_of : kept_graph names' vertices' links' ≡ kept_graph names vertices links
   same_graph_of = same_graph (sorted vertex_cmp vertices') (sorted vertex_cmp vertices) (sorted triple_cmp (map (triple_of names') links')) (sorted triple_cmp (map (triple_of names) links))
       (ap (sorted vertex_cmp) same)
@@ -478,6 +509,7 @@ module _ (names names' : List (Option Name)) (vertices vertices' : List Vertex) 
 
 -- ---- an entry of a row has a name
 
+-- the label of an entry of an out row is a name
 pub entry_named : (names : List (Option Name)) (nodes : List (ℕ × Node)) (places : List (Link × Places)) → ArePlaced nodes places → IsNamed names (map vertex_of nodes) (keys_of places) →
     (v i : ℕ) (t : RowEntry) → slice_get (outs nodes v) i ≡ Some t → IsSome (slot names t.label)
 entry_named names nodes places h n v i t e =

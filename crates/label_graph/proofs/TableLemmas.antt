@@ -15,6 +15,7 @@ use Rattle.label_graph.proofs.PlaceLemmas.{option_map_some}
 text_of : (names : List (Option Name)) (n : ℕ) (x : Name) → slot names n ≡ Some x → text_at names n ≡ Some x.text
 text_of names n x e = ap (option_map (λ (y : Name). y.text)) e
 
+-- what the table keeps inside makes it a table of names
 pub table_of : (numbers : List (List ℕ × ℕ)) (names : List (Option Name)) → IsInside numbers names → IsTable names
 table_of numbers names h = record {
   distinct = λ m n x y p q e.
@@ -39,15 +40,19 @@ kept_inside numbers names names' n x y h at at' same used others = record {
       (λ d. h.used q z (sym (others q d) ∙ e)) (cases_eq q n);
 }
 
+-- a number that stands for a name is within the slots
 pub within_slot : (names : List (Option Name)) (n : ℕ) (x : Name) → slot names n ≡ Some x → n < length names
 within_slot names n x e = ⊎_elim (λ l. l) (λ past. let z = get_or_past names n None past in absurd (none-some x (sym z ∙ e))) (cases_lt n (length names))
 
+-- what was written at a number stands there
 pub set_here : (names : List (Option Name)) (n : ℕ) (x : Name) (v : Option Name) → slot names n ≡ Some x → slot (slice_set names n v) n ≡ v
 set_here names n x v e = get_or-set_same names n v None (within_slot names n x e)
 
+-- the other numbers stand for what they stood for
 pub set_other : (names : List (Option Name)) (n : ℕ) (v : Option Name) (q : ℕ) → (q ≡ n → ⊥) → slot (slice_set names n v) q ≡ slot names q
 set_other names n v q d = get_or-set_other names n q v None d
 
+-- texts can be told apart
 pub tell_text : CanTell (List ℕ)
 tell_text x y = by (pointwise nat_eq x y) refl
   where
@@ -62,6 +67,7 @@ apart_text x y n = by (pointwise nat_eq x y) refl
     by true e = absurd (n (sym ((bytes_decides x y).0 e)))
     by false e = e
 
+-- a name less in the slots and in the look-up
 pub removed_inside : (numbers numbers' : List (List ℕ × ℕ)) (names names' : List (Option Name)) (n : ℕ) (x : Name) → IsInside numbers names → slot names n ≡ Some x → slot names' n ≡ None →
     ((q : ℕ) → (q ≡ n → ⊥) → slot names' q ≡ slot names q) → ((t : List ℕ) → number_of numbers' t ≡ cond (pointwise nat_eq x.text t) None (number_of numbers t)) → IsInside numbers' names'
 removed_inside numbers numbers' names names' n x h at gone others set = record {
@@ -75,6 +81,7 @@ removed_inside numbers numbers' names names' n x h at gone others set = record {
       (λ d. h.used q z (sym (others q d) ∙ e)) (cases_eq q n);
 }
 
+-- a name more in the slots and in the look-up
 pub added_inside : (numbers numbers' : List (List ℕ × ℕ)) (names names' : List (Option Name)) (n : ℕ) (x : Name) → IsInside numbers names → slot names n ≡ None → slot names' n ≡ Some x → 0 < x.uses →
     number_of numbers x.text ≡ None → ((q : ℕ) → (q ≡ n → ⊥) → slot names' q ≡ slot names q) → ((t : List ℕ) → number_of numbers' t ≡ cond (pointwise nat_eq x.text t) (Some n) (number_of numbers t)) → IsInside numbers' names'
 added_inside numbers numbers' names names' n x h free here positive unknown others set = record {
@@ -89,8 +96,10 @@ added_inside numbers numbers' names names' n x h free here positive unknown othe
       (λ d. h.used q z (sym (others q d) ∙ e)) (cases_eq q n);
 }
 
+-- the number that is found for a text stands for a name of that text
 pub found_slot : (numbers : List (List ℕ × ℕ)) (names : List (Option Name)) (text : List ℕ) (n : ℕ) → IsInside numbers names → number_of numbers text ≡ Some n → (x : Name) × (slot names n ≡ Some x) × (x.text ≡ text)
 found_slot numbers names text n h e = option_map_some (λ (y : Name). y.text) (slot names n) text (h.inverse.back text n e)
 
+-- names of the same text and uses are the same
 pub same_name : (a b : List ℕ) (m n : ℕ) → a ≡ b → m ≡ n → ◌≡◌ {A = Name} (record { text = a; uses = m }) (record { text = b; uses = n })
 same_name a b m n p q = cc

@@ -66,6 +66,7 @@ apart_ids (k ∷ ks) d = ((λ i. head ks d.0 i), apart_ids ks d.1)
     head (m ∷ ms) a (inl e) = true≢false (sym (eq-eqb k m e) ∙ a.0)
     head (m ∷ ms) a (inr j) = head ms a.1 j
 
+-- there are as many vertices as nodes
 pub vertices_counted : (es : List (ℕ × Node)) → IsDistinct nat_eq (keys_of es) → length (sorted vertex_cmp (map vertex_of es)) ≡ length es
 vertices_counted es d =
     sym (length-map (sorted vertex_cmp (map vertex_of es)) (λ (w : Vertex). w.id))

@@ -25,6 +25,7 @@ use Rattle.label_graph.proofs.StoreLemmas.{vertex_total, count_cons, count_permu
 
 -- ---- vertices in another order
 
+-- names, vertices and links belong together with the vertices in another order
 pub named_permuted : (names : List (Option Name)) (vertices vertices' : List Vertex) (links : List Link) → IsPermutation vertices vertices' → IsNamed names vertices links → IsNamed names vertices' links
 named_permuted names vertices vertices' links p h = record {
   counted = λ n x e. h.counted n x e ∙ ap (λ (m : ℕ). count_by (λ (k : Link). k.label == n) links + m) (sym (count_permutation (λ (v : Vertex). is_in text_cmp x.text v.labels) vertices vertices' p));
@@ -107,6 +108,7 @@ module _ (names names' : List (Option Name)) (vertices vertices' : List Vertex) 
   named_first : IsNamed names' (v ∷ vertices) links
   named_first = record { counted = counted_more; unused = unused_more; unborne = unborne_more; one_each = one_each_more }
 
+  -- names, vertices and links belong together after a vertex came
   pub named_with : IsNamed names' vertices' links
   named_with = named_permuted names' (v ∷ vertices) vertices' links p named_first
 
@@ -115,6 +117,7 @@ module _ (names names' : List (Option Name)) (vertices vertices' : List Vertex) 
       let x = known_label names vertices links h l i in
       text_kept v.labels names names' r l.label x.0.text (text_of_slot names l.label x.0 x.1) ∙ sym (text_of_slot names l.label x.0 x.1)
 
+  -- a vertex more is the graph with it
   pub graph_with : with_vertex (kept_graph names vertices links) v ≡ kept_graph names' vertices' links
   graph_with = same_graph (put vertex_cmp v (sorted vertex_cmp vertices)) (sorted vertex_cmp vertices') (sorted triple_cmp (map (triple_of names) links)) (sorted triple_cmp (map (triple_of names') links))
       (sorted_same vertex_cmp vertex_total (v ∷ vertices) vertices' (exact_vertices names' (v ∷ vertices) links named_first) p)
@@ -202,6 +205,7 @@ module _ (names names' : List (Option Name)) (vertices : List Vertex) (links : L
               let d = borne v vertices t true f in
               omega (arith, a, d)
 
+  -- names, vertices and links belong together after a vertex without triples went
   pub named_without : IsNamed names' vertices links
   named_without = record {
     counted = counted_less;
@@ -210,6 +214,7 @@ module _ (names names' : List (Option Name)) (vertices : List Vertex) (links : L
     one_each = λ a b i j e. h.one_each a b (inr i) (inr j) e;
   }
 
+  -- the labels of the links stand for the same texts
   pub text_stays_without : (l : Link) → In links l → text_at names' l.label ≡ text_at names l.label
   text_stays_without l i = known (known_label names (v ∷ vertices) links h l i)
     where
@@ -255,9 +260,11 @@ vertices_without names vertices vertices' links v h p gone =
 module _ (names names' : List (Option Name)) (vertices vertices' : List Vertex) (links : List Link) (v : Vertex)
     (h : IsNamed names vertices links) (low : (q : ℕ) → slot names' q ≡ lowered_in v.labels (slot names q)) (p : IsPermutation vertices (v ∷ vertices'))
     (gone : list_any (λ (w : Vertex). w.id == v.id) vertices' ≡ false) where
+  -- the same, with the vertices in another order
   pub removed_vertex_named : IsNamed names' vertices' links
   removed_vertex_named = named_without names names' vertices' links v (named_permuted names vertices (v ∷ vertices') links p h) low
 
+  -- a vertex less is the graph without it
   pub graph_without : without_vertex (kept_graph names vertices links) v.id ≡ kept_graph names' vertices' links
   graph_without = same_graph (filter (λ (w : Vertex). not (w.id == v.id)) (sorted vertex_cmp vertices)) (sorted vertex_cmp vertices') (sorted triple_cmp (map (triple_of names) links)) (sorted triple_cmp (map (triple_of names') links))
       (vertices_without names vertices vertices' links v h p gone)

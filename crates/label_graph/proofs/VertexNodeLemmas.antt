@@ -41,6 +41,7 @@ entry_at [] i node e = absurd (none-some node e)
 entry_at (x ∷ xs) zero node e = (x.0, ap Some (ap (λ (n : Node). (x.0, n)) (same_Some x.1 node e)), refl)
 entry_at (x ∷ xs) (suc i) node e = entry_at xs i node e
 
+-- a node that is taken away leaves the other nodes
 pub taken : (id : ℕ) (es : List (ℕ × Node)) (node : Node) → lookup (nat_eq id) es ≡ Some node → IsPermutation es ((id, node) ∷ swap_remove_entry (nat_eq id) es)
 taken id [] node e = absurd (none-some node e)
 taken id (x ∷ xs) node e = by (position (nat_eq id) (keys_of (x ∷ xs))) refl
@@ -74,11 +75,13 @@ module _ (id : ℕ) (es fs : List (ℕ × Node)) (set : (q : ℕ) → lookup (na
           ap rows (set q) ∙ (ap (λ (b : Bool). rows (cond b None (lookup (nat_eq q) es))) e ∙ (none ∙ sym (subst P (eqb-true id q e) empty)))
       by false e = ap rows (set q) ∙ ap (λ (b : Bool). rows (cond b None (lookup (nat_eq q) es))) e
 
+  -- rows and places belong together after a node without entries went
   pub placed_left : (places : List (Link × Places)) → outs es id ≡ [] → ins es id ≡ [] → ArePlaced es places → ArePlaced fs places
   placed_left places os is h = same_placed es fs places places (rows_left outs_of refl os) (rows_left ins_of refl is) (λ q. refl) h
 
 -- ---- a node put in
 
+-- the vertices of the nodes with one put behind them
 pub pushed_first : (es : List (ℕ × Node)) (x : ℕ × Node) (fs : List (ℕ × Node)) → fs ≡ es ++ x ∷ [] → IsPermutation (map vertex_of (x ∷ es)) (map vertex_of fs)
 pushed_first es x fs e =
     let P : List (ℕ × Node) → Type 0 = λ l. IsPermutation (map vertex_of (x ∷ es)) (map vertex_of l) in
@@ -95,6 +98,7 @@ module _ (id : ℕ) (node : Node) (es fs : List (ℕ × Node)) (set : (q : ℕ) 
           ap rows (set q) ∙ (ap (λ (b : Bool). rows (cond b (Some node) (lookup (nat_eq q) es))) e ∙ (empty ∙ sym (subst P (eqb-true id q e) (ap rows free ∙ none))))
       by false e = ap rows (set q) ∙ ap (λ (b : Bool). rows (cond b (Some node) (lookup (nat_eq q) es))) e
 
+  -- rows and places belong together after a node without entries came
   pub placed_more : (places : List (Link × Places)) → node.outs.items ≡ [] → node.ins.items ≡ [] → ArePlaced es places → ArePlaced fs places
   placed_more places os is h = same_placed es fs places places (rows_more outs_of refl os) (rows_more ins_of refl is) (λ q. refl) h
 

@@ -30,21 +30,27 @@ use Rattle.label_graph.proofs.VertexNodeLemmas.{taken, none_left, placed_left, p
 
 -- ---- what the definitions answer
 
+-- an id that is a vertex is refused first
 pub add_vertex_stands : (limits : Limits) (g : Graph) (v : Vertex) → has_vertex g v.id ≡ true → add_vertex limits g v ≡ Err code.Exists
 add_vertex_stands limits g v e = rw e refl
 
+-- then one for which a limit leaves no room
 pub add_vertex_full : (limits : Limits) (g : Graph) (v : Vertex) → has_vertex g v.id ≡ false → nat_le limits.vertices (length g.vertices) || nat_lt limits.labels (name_count g v.labels) ≡ true → add_vertex limits g v ≡ Err code.Full
 add_vertex_full limits g v e f = rw (e, f) refl
 
+-- any other is put in
 pub add_vertex_done : (limits : Limits) (g : Graph) (v : Vertex) → has_vertex g v.id ≡ false → nat_le limits.vertices (length g.vertices) || nat_lt limits.labels (name_count g v.labels) ≡ false → add_vertex limits g v ≡ Ok (with_vertex g v)
 add_vertex_done limits g v e f = rw (e, f) refl
 
+-- an id that is no vertex is refused first
 pub drop_vertex_unknown : (g : Graph) (id : ℕ) → has_vertex g id ≡ false → drop_vertex g id ≡ Err code.NoVertex
 drop_vertex_unknown g id e = rw e refl
 
+-- then a vertex with a triple
 pub drop_vertex_busy : (g : Graph) (id : ℕ) → has_vertex g id ≡ true → has_incident_triple g id ≡ true → drop_vertex g id ≡ Err code.Busy
 drop_vertex_busy g id e f = rw (e, f) refl
 
+-- any other is taken away
 pub drop_vertex_done : (g : Graph) (id : ℕ) → has_vertex g id ≡ true → has_incident_triple g id ≡ false → drop_vertex g id ≡ Ok (without_vertex g id)
 drop_vertex_done g id e f = rw (e, f) refl
 
@@ -59,18 +65,22 @@ module _ (names names' : List (Option Name)) (es fs : List (ℕ × Node)) (place
       let P : List (ℕ × Node) → Type 0 = λ l. IsPermutation (map vertex_of es) (vertex_of (id, node) ∷ map vertex_of l) in
       subst P (sym entries) (IsPermutation-map vertex_of es ((id, node) ∷ swap_remove_entry (nat_eq id) es) (taken id es node found))
 
+  -- rows and places belong together after it
   pub dropped_placed : ArePlaced fs places
   dropped_placed = let r = empty_rows (outs es id) (ins es id) idle in placed_left id es fs set places r.0 r.1 placed
 
+  -- and so do names, vertices and links
   pub dropped_named : IsNamed names' (map vertex_of fs) (keys_of places)
   dropped_named = removed_vertex_named names names' (map vertex_of es) (map vertex_of fs) (keys_of places) (vertex_of (id, node)) named low without (none_left id es fs set)
 
+  -- what is kept is the graph without the vertex
   pub dropped : drop_vertex (kept_graph names (map vertex_of es) (keys_of places)) id ≡ Ok (kept_graph names' (map vertex_of fs) (keys_of places))
   dropped =
       let okay : Graph → Result Graph Code = λ g. Ok g in
       drop_vertex_done (kept_graph names (map vertex_of es) (keys_of places)) id (has_vertex_of names es (keys_of places) id ∙ ap is_some found) (incident_is es places placed id names (map vertex_of es) ∙ idle)
       ∙ ap okay (graph_without names names' (map vertex_of es) (map vertex_of fs) (keys_of places) (vertex_of (id, node)) named low without (none_left id es fs set))
 
+  -- which is within the limits
   pub dropped_held : (limits : Limits) → IsWithinLimits limits (kept_graph names (map vertex_of es) (keys_of places)) → IsWithinLimits limits (kept_graph names' (map vertex_of fs) (keys_of places))
   dropped_held limits held = held_after limits (kept_graph names (map vertex_of es) (keys_of places)) (kept_graph names' (map vertex_of fs) (keys_of places)) (DropVertex id) held tt dropped
 
@@ -84,6 +94,7 @@ module _ (limits : Limits) (names names' : List (Option Name)) (es mid fs : List
   set : (q : ℕ) → lookup (nat_eq q) fs ≡ cond (nat_eq id q) (Some node) (lookup (nat_eq q) es)
   set q = found q ∙ ap (λ (l : List (ℕ × Node)). cond (nat_eq id q) (Some node) (lookup (nat_eq q) l)) same
 
+  -- rows and places belong together after it
   pub added_placed : ArePlaced fs places
   added_placed = placed_more id node es fs set (none_from (lookup (nat_eq id) es) absent) places no_outs no_ins placed
 
@@ -95,15 +106,18 @@ module _ (limits : Limits) (names names' : List (Option Name)) (es mid fs : List
       let P : List (List ℕ) → Type 0 = λ l. IsPermutation (record { id = id; labels = l } ∷ map vertex_of es) (map vertex_of fs) in
       subst P bears (pushed_first es (id, node) fs (entries ∙ ap (λ (l : List (ℕ × Node)). l ++ (id, node) ∷ []) same))
 
+  -- and so do names, vertices and links
   pub added_named : IsNamed names' (map vertex_of fs) (keys_of places)
   added_named = named_with names names' (map vertex_of es) (map vertex_of fs) (keys_of places) (record { id = id; labels = labels }) named raised fresh first
 
+  -- what is kept is the graph with the vertex
   pub added_vertex : add_vertex limits (kept_graph names (map vertex_of es) (keys_of places)) (record { id = id; labels = labels }) ≡ Ok (kept_graph names' (map vertex_of fs) (keys_of places))
   added_vertex =
       let okay : Graph → Result Graph Code = λ g. Ok g in
       add_vertex_done limits (kept_graph names (map vertex_of es) (keys_of places)) (record { id = id; labels = labels }) (has_vertex_of names es (keys_of places) id ∙ absent) room
       ∙ ap okay (graph_with names names' (map vertex_of es) (map vertex_of fs) (keys_of places) (record { id = id; labels = labels }) named raised fresh first)
 
+  -- which is within the limits
   pub added_held : id < 2 ^ 32 → IsLabelSet labels → IsWithinLimits limits (kept_graph names (map vertex_of es) (keys_of places)) → IsWithinLimits limits (kept_graph names' (map vertex_of fs) (keys_of places))
   added_held small is_set held =
       let sound : IsVertex (record { id = id; labels = labels }) = record { id = small; labels = is_set } in
@@ -112,8 +126,10 @@ module _ (limits : Limits) (names names' : List (Option Name)) (es mid fs : List
 -- ---- numbers that stand for what they stood for
 
 module _ (names names' : List (Option Name)) (es fs : List (ℕ × Node)) (links : List Link) (slots : (q : ℕ) → slot names' q ≡ slot names q) (entries : fs ≡ es) where
+  -- they keep belonging to the vertices and links
   pub kept_named : IsNamed names (map vertex_of es) links → IsNamed names' (map vertex_of fs) links
   kept_named h = same_named names names' (map vertex_of es) (map vertex_of fs) links links slots (ap (map vertex_of) entries) (IsPermutation-refl links) h
 
+  -- and mean the same graph with them
   pub kept_same : kept_graph names' (map vertex_of fs) links ≡ kept_graph names (map vertex_of es) links
   kept_same = same_graph_of names names' (map vertex_of es) (map vertex_of fs) links links slots (ap (map vertex_of) entries) (IsPermutation-refl links)

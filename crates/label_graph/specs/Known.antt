@@ -5,6 +5,7 @@ use Rattle.label_graph.specs.declared.link.Link.{Link}
 use Rattle.label_graph.specs.declared.link.Places.{Places}
 use Rattle.label_graph.specs.Places.{link_eq}
 
+-- whether the link of these ends stands with the number, if one is told
 abbrev pub known_stands : List (Link × Places) → Option ℕ → ℕ → ℕ → Bool
 known_stands places None src dst = false
 known_stands places (Some n) src dst = is_some (lookup (link_eq (record { src = src; label = n; dst = dst })) places)

@@ -1,4 +1,4 @@
--- What a `LabelGraph` means: its graph and limits, and its rows.
+-- What a `LabelGraph` means: its graph, its rows from a place on, and of which vertex a place is.
 use Rattle.std.specs.Prelude.{◌≡◌, ℕ, List, Some, map, slice_get}
 use Rattle.std.specs.Map.{keys_of}
 use Rattle.flux_model.specs.Graph.{Graph}
@@ -8,16 +8,18 @@ use Rattle.label_graph.specs.Store.{kept_graph, row_from}
 use Rattle.graph_traits.specs.declared.spot.Spot.{Spot}
 use Rattle.label_graph.specs.declared.store.LabelGraph.{LabelGraph}
 
+-- the graph: the vertices of the nodes, and the triples of the links that have places
 abbrev pub graph_in : LabelGraph → Graph
 graph_in s = kept_graph s.names (map vertex_of s.nodes.entries) (keys_of s.places.entries)
 
--- the triples of the out row of v from a place on, and those of its in row
+-- the triples of the out row of v from a place on
 abbrev pub outs_in : LabelGraph → ℕ → Spot → List Triple
 outs_in s v at = row_from s.names (out_link v) (outs s.nodes.entries v) at.place
 
+-- the triples of the in row of v from a place on
 abbrev pub ins_in : LabelGraph → ℕ → Spot → List Triple
 ins_in s v at = row_from s.names (in_link v) (ins s.nodes.entries v) at.place
 
--- the place is one of a row of v, or its end
+-- the place is of the vertex v: it says where the store has that vertex
 abbrev pub IsOfVertex : LabelGraph → ℕ → Spot → Type 0
 IsOfVertex s v at = slice_get (keys_of s.nodes.entries) at.node ≡ Some v

@@ -6,6 +6,7 @@ use Rattle.label_graph.specs.declared.names.Name.{Name}
 abbrev pub slot : List (Option Name) → ℕ → Option Name
 slot names n = slice_index_or names n None
 
+-- the text that a number stands for
 abbrev pub text_at : List (Option Name) → ℕ → Option (List ℕ)
 text_at names n = option_map (λ x. x.text) (slot names n)
 

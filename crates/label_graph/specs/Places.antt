@@ -1,5 +1,6 @@
 -- Rows, and where a triple stands in them.
-use Rattle.std.specs.Prelude.{◌≡◌, ◌≢◌, ℕ, ◌+◌, ◌<◌, ◌&&◌, ◌==◌, nat_eq, Bool, List, [], Option, Some, None, option_map, slice_get, length, IsSomeAnd, vec_len, vec_capacity}
+use Rattle.std.specs.Prelude.{◌≡◌, ◌≢◌, ℕ, ◌+◌, ◌<◌, ◌&&◌, ◌==◌, nat_eq, Bool, List, [], Option, Some, None, option_map, cond}
+use Rattle.std.specs.Prelude.{slice_get, length, IsSomeAnd, vec_len, vec_capacity}
 use Rattle.std.specs.Map.{lookup}
 use Rattle.flux_model.specs.declared.graph.Vertex.{Vertex}
 use Rattle.label_graph.specs.declared.link.Link.{Link}
@@ -12,29 +13,35 @@ pub record AreInverse {A B : Type 0} (f : A → Option B) (g : B → Option A) :
   pub there : (a : A) (b : B) → f a ≡ Some b → g b ≡ Some a
   pub back : (b : B) (a : A) → g b ≡ Some a → f a ≡ Some b
 
+-- whether two links have the same ends and label
 abbrev pub link_eq : Link → Link → Bool
 link_eq k l = (k.src == l.src) && ((k.label == l.label) && (k.dst == l.dst))
 
 -- ---- rows
 
+-- the out row of a node, empty where there is none
 abbrev pub outs_of : Option Node → List RowEntry
 outs_of None = []
 outs_of (Some p) = p.outs.items
 
+-- the in row of a node, empty where there is none
 abbrev pub ins_of : Option Node → List RowEntry
 ins_of None = []
 ins_of (Some p) = p.ins.items
 
+-- the out row of an id
 abbrev pub outs : List (ℕ × Node) → ℕ → List RowEntry
 outs nodes v = outs_of (lookup (nat_eq v) nodes)
 
+-- the in row of an id
 abbrev pub ins : List (ℕ × Node) → ℕ → List RowEntry
 ins nodes v = ins_of (lookup (nat_eq v) nodes)
 
--- the triple of an entry, in the out row of a vertex and in its in row
+-- the triple of an entry in the out row of a vertex
 abbrev pub out_link : ℕ → RowEntry → Link
 out_link v t = record { src = v; label = t.label; dst = t.other }
 
+-- the triple of an entry in the in row of a vertex
 abbrev pub in_link : ℕ → RowEntry → Link
 in_link v t = record { src = t.other; label = t.label; dst = v }
 
@@ -50,11 +57,17 @@ pub record IsPulled (i : ℕ) (xs ys : List RowEntry) : Type 0 where
 
 -- ---- places
 
+-- where a triple stands in the out row of its source
 abbrev pub out_place : List (Link × Places) → Link → Option (ℕ × ℕ)
 out_place places k = option_map (λ p. (k.src, p.out_at)) (lookup (link_eq k) places)
 
+-- where a triple stands in the in row of its target
 abbrev pub in_place : List (Link × Places) → Link → Option (ℕ × ℕ)
 in_place places k = option_map (λ p. (k.dst, p.in_at)) (lookup (link_eq k) places)
+
+-- places as they are noted, but for one triple, which stands at this place
+abbrev pub placed_at : (Link → Option (ℕ × ℕ)) → Link → ℕ × ℕ → Link → Option (ℕ × ℕ)
+placed_at noted k a q = cond (link_eq k q) (Some a) (noted q)
 
 -- the triples stand in the rows at the places that are noted for them, and nothing else does
 pub record ArePlaced (nodes : List (ℕ × Node)) (places : List (Link × Places)) : Type 0 where
@@ -63,13 +76,16 @@ pub record ArePlaced (nodes : List (ℕ × Node)) (places : List (Link × Places
 
 -- ---- room for one more entry
 
+-- an entry more fits into the out row of the vertex
 abbrev pub HasRoomOut : List (ℕ × Node) → ℕ → Type 0
 HasRoomOut nodes v = IsSomeAnd (lookup (nat_eq v) nodes) (λ p. vec_len p.outs < vec_capacity p.outs)
 
+-- an entry more fits into the in row of the vertex
 abbrev pub HasRoomIn : List (ℕ × Node) → ℕ → Type 0
 HasRoomIn nodes v = IsSomeAnd (lookup (nat_eq v) nodes) (λ p. vec_len p.ins < vec_capacity p.ins)
 
 -- ---- vertices
 
+-- the vertex of a node
 abbrev pub vertex_of : ℕ × Node → Vertex
 vertex_of e = record { id = e.0; labels = e.1.labels }

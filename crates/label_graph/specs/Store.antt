@@ -18,7 +18,8 @@ triple_of names k = record { src = k.src; label = unwrap_or (text_at names k.lab
 
 -- the graph: its vertices and triples in ascending order
 abbrev pub kept_graph : List (Option Name) → List Vertex → List Link → Graph
-kept_graph names vertices links = record { vertices = sorted vertex_cmp vertices; triples = sorted triple_cmp (map (triple_of names) links) }
+kept_graph names vertices links =
+    record { vertices = sorted vertex_cmp vertices; triples = sorted triple_cmp (map (triple_of names) links) }
 
 -- how often a number is used: by triples, and by vertices that bear its name
 abbrev pub use_count : List Vertex → List Link → ℕ → List ℕ → ℕ

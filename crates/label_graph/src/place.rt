@@ -1,7 +1,7 @@
 //! Where triples stand.
-ghost use Rattle.std.specs.Prelude.{◌≡◌, ◌≢◌, ℕ, None, Some, IsSome, cond};
+ghost use Rattle.std.specs.Prelude.{◌≡◌, ◌≢◌, ℕ, None, Some, IsSome};
 ghost use Rattle.std.specs.Map.{lookup, keys_of};
-ghost use Rattle.label_graph.specs.Places.{out_place, in_place, link_eq};
+ghost use Rattle.label_graph.specs.Places.{out_place, in_place, placed_at, link_eq};
 ghost use Rattle.label_graph.specs.declared.link.Link.{Link};
 
 use crate::hashed::Standing;
@@ -10,7 +10,7 @@ use crate::link::{Link, Places};
 /// Notes a new place in the out row.
 pub fn set_out(places: &mut Standing, k: Link, at: usize)
     requires { IsSome (lookup (link_eq k) places.old.entries) }
-    ensures out { (q : Link) → out_place places.new.entries q ≡ cond (link_eq k q) (Some (k.src, at)) (out_place places.old.entries q) }
+    ensures out { (q : Link) → out_place places.new.entries q ≡ placed_at (out_place places.old.entries) k (k.src, at) q }
     ensures ins { (q : Link) → in_place places.new.entries q ≡ in_place places.old.entries q }
     ensures keys { keys_of places.new.entries ≡ keys_of places.old.entries }
 {
@@ -21,7 +21,7 @@ pub fn set_out(places: &mut Standing, k: Link, at: usize)
 /// Notes a new place in the in row.
 pub fn set_in(places: &mut Standing, k: Link, at: usize)
     requires { IsSome (lookup (link_eq k) places.old.entries) }
-    ensures ins { (q : Link) → in_place places.new.entries q ≡ cond (link_eq k q) (Some (k.dst, at)) (in_place places.old.entries q) }
+    ensures ins { (q : Link) → in_place places.new.entries q ≡ placed_at (in_place places.old.entries) k (k.dst, at) q }
     ensures out { (q : Link) → out_place places.new.entries q ≡ out_place places.old.entries q }
     ensures keys { keys_of places.new.entries ≡ keys_of places.old.entries }
 {

@@ -1,5 +1,6 @@
 //! Changes of one row.
-ghost use Rattle.std.specs.Prelude.{map, ◌≡◌, ◌≢◌, ℕ, ◌+◌, ◌-◌, ◌<◌, ◌++◌, ◌∷◌, [], None, Some, IsSome, MatchOption, slice_get, nat_eq, length, OnOk, OnErr, IfSome};
+ghost use Rattle.std.specs.Prelude.{map, ◌≡◌, ◌≢◌, ℕ, ◌+◌, ◌-◌, ◌<◌, ◌++◌, ◌∷◌, [], None, Some, IsSome, MatchOption};
+ghost use Rattle.std.specs.Prelude.{slice_get, nat_eq, length, OnOk, OnErr, IfSome};
 ghost use Rattle.std.specs.Map.{lookup, keys_of};
 ghost use Rattle.label_graph.specs.Places.{outs, ins, vertex_of, IsPulled, HasRoomOut, HasRoomIn};
 

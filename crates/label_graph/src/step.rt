@@ -1,7 +1,7 @@
 //! A triple that leaves one of its rows.
-ghost use Rattle.std.specs.Prelude.{map, ◌≡◌, ◌≢◌, ℕ, None, Some, IsSome, is_some, cond, nat_eq};
+ghost use Rattle.std.specs.Prelude.{map, ◌≡◌, ◌≢◌, ℕ, None, Some, IsSome, is_some, nat_eq};
 ghost use Rattle.std.specs.Map.{lookup, keys_of};
-ghost use Rattle.label_graph.specs.Places.{outs, ins, vertex_of, link_eq, AreInverse, link_at, out_link, in_link, out_place, in_place};
+ghost use Rattle.label_graph.specs.Places.{outs, ins, vertex_of, AreInverse, link_at, out_link, in_link, out_place, in_place, placed_at};
 ghost use Rattle.label_graph.specs.declared.link.Link.{Link};
 
 use crate::hashed::{Nodes, Standing};
@@ -11,7 +11,7 @@ use crate::row::{pull_in, pull_out};
 
 /// Takes a triple out of the out row where it stands at this place, and mends the place of the one that is moved.
 pub fn leave_out(nodes: &mut Nodes, places: &mut Standing, k: Link, at: usize)
-    requires placed { AreInverse (link_at out_link (outs nodes.old.entries)) (λ q. cond (link_eq k q) (Some (k.src, at)) (out_place places.old.entries q)) }
+    requires placed { AreInverse (link_at out_link (outs nodes.old.entries)) (placed_at (out_place places.old.entries) k (k.src, at)) }
     requires gone { out_place places.old.entries k ≡ None }
     ensures placed { AreInverse (link_at out_link (outs nodes.new.entries)) (out_place places.new.entries) }
     ensures ins { (q : ℕ) → ins nodes.new.entries q ≡ ins nodes.old.entries q }
@@ -35,7 +35,7 @@ pub fn leave_out(nodes: &mut Nodes, places: &mut Standing, k: Link, at: usize)
 
 /// Takes a triple out of the in row where it stands at this place, and mends the place of the one that is moved.
 pub fn leave_in(nodes: &mut Nodes, places: &mut Standing, k: Link, at: usize)
-    requires placed { AreInverse (link_at in_link (ins nodes.old.entries)) (λ q. cond (link_eq k q) (Some (k.dst, at)) (in_place places.old.entries q)) }
+    requires placed { AreInverse (link_at in_link (ins nodes.old.entries)) (placed_at (in_place places.old.entries) k (k.dst, at)) }
     requires gone { in_place places.old.entries k ≡ None }
     ensures placed { AreInverse (link_at in_link (ins nodes.new.entries)) (in_place places.new.entries) }
     ensures outs { (q : ℕ) → outs nodes.new.entries q ≡ outs nodes.old.entries q }
