@@ -2,12 +2,13 @@
 ghost use Rattle.std.specs.Prelude.{◌≡◌, codes, length, false, IfOk};
 ghost use Rattle.flux_model.specs.Tree.{BelongsTo};
 
-use crate::{Direction, GraphRow, build};
+use crate::build;
 use dcg_store::Dcg;
 use flux_model::State::{Explicit, Implicit, Null};
 use flux_model::{
     Cards, Labels, Limits, Mode, Pattern, PatternEdge, State, Steps, Tally, Text, Triple,
 };
+use graph_rows::{Direction, GraphRow};
 use label_graph::{HoldGraph, KeepGraph, LabelGraph, ReadGraph};
 use query_tree::QueryTree;
 use std::alloc::{AllocError, Global};

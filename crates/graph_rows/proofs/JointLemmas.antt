@@ -54,7 +54,7 @@ module _ (q : PatternGraph) (t : QueryTree) (belongs : BelongsTo q t) (u : ℕ) 
   pub apart : u ≢ l.parent
   apart same = absurd (omega (arith, depth-below t belongs.tree u l link, ap (depth t) same))
 
-  -- the parent is the tail where u is the head, and else the head
+  -- the parent is the tail where u is the head
   pub ends_down : ((edge_at q l.edge).head == u) ≡ true → ((edge_at q l.edge).tail ≡ l.parent) × ((edge_at q l.edge).head ≡ u)
   ends_down down = by (or_cases (e.tail == u && e.head == l.parent) (e.tail == l.parent && e.head == u) (belongs.links u l link).between)
     where
@@ -65,6 +65,7 @@ module _ (q : PatternGraph) (t : QueryTree) (belongs : BelongsTo q t) (u : ℕ) 
       by (inl h) = absurd (apart (sym (eqb-true e.head u down) ∙ eqb-true e.head l.parent (and_parts _ _ h).1))
       by (inr h) = (eqb-true e.tail l.parent (and_parts _ _ h).0, eqb-true e.head u (and_parts _ _ h).1)
 
+  -- the parent is the head where u is not
   pub ends_up : ((edge_at q l.edge).head == u) ≡ false → ((edge_at q l.edge).tail ≡ u) × ((edge_at q l.edge).head ≡ l.parent)
   ends_up up = by (or_cases (e.tail == u && e.head == l.parent) (e.tail == l.parent && e.head == u) (belongs.links u l link).between)
     where

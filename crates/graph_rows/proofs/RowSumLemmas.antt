@@ -121,20 +121,22 @@ module _ (direction : Direction) (g : Graph) (vs : List ℕ) where
       sum_by_more (λ x. length (whole_row direction g x)) vs i v (slice_get_within vs i v at)
       ∙ ap (λ x. rows_length direction g (take i vs) + length (whole_row direction g x)) (get_or_from_slice_get vs i v v at)
 
-  -- the rows of those before a place, where all have so few
   rows_before : (i : ℕ) → rows_length direction g vs ≤ length g.triples → rows_length direction g (take i vs) ≤ length g.triples
   rows_before i few = omega (arith, few, sum_by-take-le (λ x. length (whole_row direction g x)) vs i)
 
+  -- the rows of those before a place
   pub rows_before_of_all : (i : ℕ) → IsGraph g → IsPermutation vs (ids g) → rows_length direction g (take i vs) ≤ length g.triples
   rows_before_of_all i is all = rows_before i (omega (arith, rows_of_all is all))
 
+  -- of distinct vertices
   pub rows_before_of_some : (i : ℕ) → IsDistinct nat_eq vs → rows_length direction g (take i vs) ≤ length g.triples
   rows_before_of_some i distinct = rows_before i (rows_of_some distinct)
 
-  -- with the row of the next
+  -- with the row of the vertex at the place
   pub room_of_all : (i v : ℕ) → IsGraph g → IsPermutation vs (ids g) → slice_get vs i ≡ Some v → rows_length direction g (take i vs) + length (whole_row direction g v) ≤ length g.triples
   room_of_all i v is all at = omega (arith, rows_next i v at, rows_before_of_all (i + 1) is all)
 
+  -- of distinct vertices
   pub room_of_some : (i v : ℕ) → IsDistinct nat_eq vs → slice_get vs i ≡ Some v → rows_length direction g (take i vs) + length (whole_row direction g v) ≤ length g.triples
   room_of_some i v distinct at = omega (arith, rows_next i v at, rows_before_of_some (i + 1) distinct)
 

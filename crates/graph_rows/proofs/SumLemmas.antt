@@ -104,6 +104,7 @@ listed_id_in : (v : ℕ) (vs : List Vertex) → list_any (λ (w : Vertex). w.id 
 listed_id_in v [] = refl
 listed_id_in v (w ∷ ws) = λ i. nat_eq_equiv.symm w.id v i || listed_id_in v ws i
 
+-- by the list of all ids
 pub listed_id : (g : Graph) (v : ℕ) → has_vertex g v ≡ list_any (nat_eq v) (ids g)
 listed_id g v = listed_id_in v g.vertices
 

@@ -23,11 +23,12 @@ abbrev pub triple_of : Direction → ℕ → List ℕ → ℕ → Triple
 triple_of Out v label other = record { src = v; label = label; dst = other }
 triple_of In v label other = record { src = other; label = label; dst = v }
 
--- the end at which a triple stands in a row, and its other end
+-- the end in whose row a triple stands
 abbrev pub near_end : Direction → Triple → ℕ
 near_end Out t = t.src
 near_end In t = t.dst
 
+-- and its other end
 abbrev pub other_end : Direction → Triple → ℕ
 other_end Out t = t.dst
 other_end In t = t.src

@@ -22,12 +22,14 @@ then_equal Greater s e = cc
 same_triple : (a : ℕ) (b : List ℕ) (c x : ℕ) (y : List ℕ) (z : ℕ) → a ≡ x → b ≡ y → c ≡ z → ◌≡◌ {A = Triple} (record { src = a; label = b; dst = c }) (record { src = x; label = y; dst = z })
 same_triple a b c x y z p q r = cc
 
+-- they are the same
 pub triple_exact : (s t : Triple) → triple_cmp s t ≡ Equal → s ≡ t
 triple_exact s t e =
     let p = then_equal (nat_cmp s.src t.src) (ordering_then (text_cmp s.label t.label) (nat_cmp s.dst t.dst)) e in
     let q = then_equal (text_cmp s.label t.label) (nat_cmp s.dst t.dst) p.1 in
     same_triple _ _ _ _ _ _ (exact_unsigned s.src t.src p.0) (exact_bytes s.label t.label q.0) (exact_unsigned s.dst t.dst q.1)
 
+-- a test that an order is `Equal`
 pub is_equal : (r : Ordering) → is_eq r ≡ true → r ≡ Equal
 is_equal Less e = cc
 is_equal Equal e = refl
@@ -51,5 +53,6 @@ none_equal t (s ∷ ts) h = by (bytes_eq t.label s.label) refl h (none_equal t t
 pub lacks_triple : (texts : ℕ → Option (List ℕ)) (g : Graph) (label : List ℕ) (src dst : ℕ) → IsNumberIn texts g label None → false ≡ has_triple g (record { src = src; label = label; dst = dst })
 lacks_triple texts g label src dst h = sym (none_equal (record { src = src; label = label; dst = dst }) g.triples h.absent)
 
+-- where it has one, the number's text is the label
 pub has_triple_by_number : (texts : ℕ → Option (List ℕ)) (g : Graph) (label : List ℕ) (n src dst : ℕ) → IsNumberIn texts g label (Some n) → has_triple_by g (texts n) src dst ≡ has_triple g (record { src = src; label = label; dst = dst })
 has_triple_by_number texts g label n src dst h = ap (λ o. has_triple_by g o src dst) ((h.tells n).1 refl)
