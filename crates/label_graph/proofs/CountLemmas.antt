@@ -1,5 +1,6 @@
 -- How many names are in use.
-use Rattle.std.proofs.Common.{◌≡◌, ℕ, zero, suc, ◌+◌, ◌<◌, Bool, true, false, cond, Option, Some, None, List, [], ◌∷◌, ◌++◌, map, length, refl, sym, ap, ◌∙◌, subst, ⊎_elim, ◌⊎◌, inl, inr, arith}
+use Rattle.std.proofs.Common.{◌≡◌, ℕ, zero, suc, ◌+◌, ◌<◌, Bool, true, false, cond, Option, Some, None, List, [], ◌∷◌, ◌++◌, map, length}
+use Rattle.std.proofs.Common.{refl, sym, ap, ◌∙◌, subst, ⊎_elim, ◌⊎◌, inl, inr, arith}
 use Rattle.std.specs.Prelude.{◌==◌, is_some, MatchOption, count_by, unwrap_or, if◌then◌else◌}
 use Rattle.std.specs.List.{flat_map}
 use Rattle.std.specs.Ordering.{is_eq}
@@ -40,7 +41,8 @@ length_texts (None ∷ rest) = let e = count_cons is_some None rest in let i = l
 length_texts (Some x ∷ rest) = let e = count_cons is_some (Some x) rest in let i = length_texts rest in omega arith
 
 -- a text of the list is a name in use
-pub texts_in : (names : List (Option Name)) (t : List ℕ) → In (text_list names) t → (n : ℕ) × (x : Name) × (slot names n ≡ Some x) × (x.text ≡ t)
+pub texts_in : (names : List (Option Name)) (t : List ℕ) → In (text_list names) t →
+    (n : ℕ) × (x : Name) × (slot names n ≡ Some x) × (x.text ≡ t)
 texts_in [] t i = absurd i
 texts_in (None ∷ rest) t i = let r = texts_in rest t i in (suc r.0, r.1, r.2, r.3)
 texts_in (Some x ∷ rest) t (inl e) = (zero, x, refl, sym e)
@@ -106,7 +108,8 @@ is_here : (xs : List (List ℕ)) (t : List ℕ) → In xs t ⊎ (In xs t → ⊥
 is_here [] t = inr (λ i. i)
 is_here (x ∷ xs) t = ⊎_elim (λ e. inl (inl e)) (λ n. ⊎_elim (λ i. inl (inr i)) (λ m. inr (λ i. ⊎_elim n m i)) (is_here xs t)) (tell_text t x)
 
-module _ (names : List (Option Name)) (vertices : List Vertex) (links : List Link) (h : IsNamed names vertices links) (tab : IsTable names) where
+module _ (names : List (Option Name)) (vertices : List Vertex) (links : List Link) (h : IsNamed names vertices links)
+    (tab : IsTable names) where
   not_there : (t : List ℕ) → (In (text_list names) t → ⊥) → IsUnknown names t
   not_there t n m e = let x = known_slot names m t e in let P : List ℕ → Type 0 = λ z. In (text_list names) z in n (subst P x.2 (in_texts names m x.0 x.1))
 
@@ -135,7 +138,8 @@ module _ (names : List (Option Name)) (vertices : List Vertex) (links : List Lin
       let P : List ℕ → Type 0 = λ z. In (text_list names) z in subst P e (from_link l.0 l.1))
       (append_in (flat_map (λ (v : Vertex). v.labels) (sorted vertex_cmp vertices)) (map (λ (s : Triple). s.label) (sorted triple_cmp (map (triple_of names) links))) t i)
 
-  by_link : (n : ℕ) (x : Name) → slot names n ≡ Some x → 0 < count_by (λ (l : Link). l.label == n) links → In (names_of (kept_graph names vertices links)) x.text
+  by_link : (n : ℕ) (x : Name) → slot names n ≡ Some x → 0 < count_by (λ (l : Link). l.label == n) links →
+      In (names_of (kept_graph names vertices links)) x.text
   by_link n x e c =
       let l = some_counted (λ (l : Link). l.label == n) links c in
       let s : slot names l.0.label ≡ Some x = (let P : ℕ → Type 0 = λ m. slot names m ≡ Some x in subst P (sym (eqb-true l.0.label n l.2)) e) in
@@ -145,7 +149,8 @@ module _ (names : List (Option Name)) (vertices : List Vertex) (links : List Lin
       (subst P f (in_mapped (λ (s : Triple). s.label) (sorted triple_cmp (map (triple_of names) links)) (triple_of names l.0)
       (in_sorted triple_cmp triple_total (map (triple_of names) links) (λ a b i j q. triple_exact a b q) (triple_of names l.0) (in_mapped (triple_of names) links l.0 l.1))))
 
-  by_vertex : (t : List ℕ) → 0 < count_by (λ (v : Vertex). is_in text_cmp t v.labels) vertices → In (names_of (kept_graph names vertices links)) t
+  by_vertex : (t : List ℕ) → 0 < count_by (λ (v : Vertex). is_in text_cmp t v.labels) vertices →
+      In (names_of (kept_graph names vertices links)) t
   by_vertex t c =
       let v = some_counted (λ (v : Vertex). is_in text_cmp t v.labels) vertices c in
       let y = in_any (λ z. is_eq (text_cmp t z)) v.0.labels v.2 in
@@ -163,7 +168,8 @@ module _ (names : List (Option Name)) (vertices : List Vertex) (links : List Lin
       let P : List ℕ → Type 0 = λ z. In (names_of (kept_graph names vertices links)) z in
       subst P r.3 (⊎_elim (λ l. by_link r.0 r.1 r.2 l) (λ z. by_vertex r.1.text (omega (arith, used, c, z))) (cases_lt 0 (count_by (λ (l : Link). l.label == r.0) links)))
 
-  set_is : (text : List ℕ) (list : List (List ℕ)) → ((t : List ℕ) → In list t → In (text_list names) t ⊎ (t ≡ text)) → ((t : List ℕ) → In (text_list names) t ⊎ (t ≡ text) → In list t) →
+  set_is : (text : List ℕ) (list : List (List ℕ)) → ((t : List ℕ) → In list t → In (text_list names) t ⊎ (t ≡ text)) →
+      ((t : List ℕ) → In (text_list names) t ⊎ (t ≡ text) → In list t) →
       label_set (names_of (kept_graph names vertices links) ++ text ∷ []) ≡ sorted text_cmp list
   set_is text list to from = ascending_same text_cmp nat_list_cmp_total (label_set (names_of (kept_graph names vertices links) ++ text ∷ [])) (sorted text_cmp list)
       (put_all_ascending [] (names_of (kept_graph names vertices links) ++ text ∷ []) refl) (sorted_ascending text_cmp nat_list_cmp_total list)
@@ -175,7 +181,8 @@ module _ (names : List (Option Name)) (vertices : List Vertex) (links : List Lin
       (to z (sorted_in text_cmp nat_list_cmp_total list z i)))))
 
   -- with one text more, the graph has as many label names as the table, and one more where the text has no number
-  pub names_counted : (text : List ℕ) (known : Option ℕ) → MatchOption known (IsUnknown names text) (λ n. text_at names n ≡ Some text) → name_count (kept_graph names vertices links) (text ∷ []) ≡ count_by is_some names + (if is_some known then 0 else 1)
+  pub names_counted : (text : List ℕ) (known : Option ℕ) → MatchOption known (IsUnknown names text) (λ n. text_at names n ≡ Some text) →
+      name_count (kept_graph names vertices links) (text ∷ []) ≡ count_by is_some names + (if is_some known then 0 else 1)
   names_counted text (Some n) found =
       let x = known_slot names n text found in
       let P : List ℕ → Type 0 = λ z. In (text_list names) z in

@@ -30,12 +30,15 @@ module _ (names : List (Option Name)) (es : List (ℕ × Node)) (places : List (
   link = record { src = t.src; label = label; dst = t.dst }
 
   -- whether a triple stands is whether its link has places
-  pub stands : text_at names label ≡ Some t.label → has_triple (kept_graph names (map vertex_of es) (keys_of places)) t ≡ is_some (lookup (link_eq link) places)
+  pub stands : text_at names label ≡ Some t.label → has_triple (kept_graph names (map vertex_of es) (keys_of places)) t
+      ≡ is_some (lookup (link_eq link) places)
   stands found = has_triple_found names (map vertex_of es) (keys_of places) h tab link t.label found ∙ sym (is_some-lookup (link_eq link) places)
 
-  module _ (names' : List (Option Name)) (vertices' : List Vertex) (links' : List Link) (others : (q : ℕ) → (q ≡ label → ⊥) → slot names' q ≡ slot names q) (same : vertices' ≡ map vertex_of es) where
+  module _ (names' : List (Option Name)) (vertices' : List Vertex) (links' : List Link)
+      (others : (q : ℕ) → (q ≡ label → ⊥) → slot names' q ≡ slot names q) (same : vertices' ≡ map vertex_of es) where
     -- a link less and a use of its label less is the graph without the triple
-    pub edge_removed : text_at names label ≡ Some t.label → is_some (lookup (link_eq link) places) ≡ true → IsPermutation (keys_of places) (link ∷ links') → list_any (link_eq link) links' ≡ false →
+    pub edge_removed : text_at names label ≡ Some t.label → is_some (lookup (link_eq link) places) ≡ true →
+        IsPermutation (keys_of places) (link ∷ links') → list_any (link_eq link) links' ≡ false →
         slot names' label ≡ lowered (slot names label) → drop_edge (kept_graph names (map vertex_of es) (keys_of places)) t ≡ Ok (kept_graph names' vertices' links')
     edge_removed found there parted gone here =
         drop_edge_done (kept_graph names (map vertex_of es) (keys_of places)) t (both_ends names es (keys_of places) t src dst) (stands found ∙ there)

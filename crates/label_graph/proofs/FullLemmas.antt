@@ -1,5 +1,6 @@
 -- Counts against limits.
-use Rattle.std.proofs.Common.{◌≡◌, ℕ, ◌+◌, Bool, true, false, ◌||◌, Option, Some, None, List, [], ◌∷◌, map, length, Ok, Err, refl, sym, ap, ◌∙◌, subst, inl, inr}
+use Rattle.std.proofs.Common.{◌≡◌, ℕ, ◌+◌, Bool, true, false, ◌||◌, Option, Some, None, List, [], ◌∷◌, map, length, Ok, Err, refl, sym, ap}
+use Rattle.std.proofs.Common.{◌∙◌, subst, inl, inr}
 use Rattle.std.specs.Prelude.{is_some, nat_le, nat_lt, MatchOption, count_by, if◌then◌else◌}
 use Rattle.std.specs.List.{list_any, AllByRecursion, IsDistinct}
 use Rattle.std.specs.Map.{lookup, keys_of}
@@ -33,21 +34,27 @@ pub add_edge_apart : (limits : Limits) (g : Graph) (t : Triple) → has_both_end
 add_edge_apart limits g t e = rw e refl
 
 -- then a triple that stands
-pub add_edge_stands : (limits : Limits) (g : Graph) (t : Triple) → has_both_ends g t ≡ true → has_triple g t ≡ true → add_edge limits g t ≡ Err code.Exists
+pub add_edge_stands : (limits : Limits) (g : Graph) (t : Triple) → has_both_ends g t ≡ true → has_triple g t ≡ true →
+    add_edge limits g t ≡ Err code.Exists
 add_edge_stands limits g t e f = rw (e, f) refl
 
 -- then one for which a limit leaves no room
-pub add_edge_full : (limits : Limits) (g : Graph) (t : Triple) → has_both_ends g t ≡ true → has_triple g t ≡ false → nat_le limits.edges (length g.triples) || nat_lt limits.labels (name_count g (t.label ∷ [])) ≡ true → add_edge limits g t ≡ Err code.Full
+pub add_edge_full : (limits : Limits) (g : Graph) (t : Triple) → has_both_ends g t ≡ true → has_triple g t ≡ false →
+    nat_le limits.edges (length g.triples) || nat_lt limits.labels (name_count g (t.label ∷ [])) ≡ true →
+    add_edge limits g t ≡ Err code.Full
 add_edge_full limits g t e f n = rw (e, f, n) refl
 
 -- any other is put in
-pub add_edge_done : (limits : Limits) (g : Graph) (t : Triple) → has_both_ends g t ≡ true → has_triple g t ≡ false → nat_le limits.edges (length g.triples) || nat_lt limits.labels (name_count g (t.label ∷ [])) ≡ false → add_edge limits g t ≡ Ok (with_triple g t)
+pub add_edge_done : (limits : Limits) (g : Graph) (t : Triple) → has_both_ends g t ≡ true → has_triple g t ≡ false →
+    nat_le limits.edges (length g.triples) || nat_lt limits.labels (name_count g (t.label ∷ [])) ≡ false →
+    add_edge limits g t ≡ Ok (with_triple g t)
 add_edge_done limits g t e f n = rw (e, f, n) refl
 
 -- ---- by the number of the label
 
 -- whether a triple stands, by the number of its label if it has one
-pub known_triple : (names : List (Option Name)) (vertices : List Vertex) (places : List (Link × Places)) (t : Triple) (known : Option ℕ) → IsNamed names vertices (keys_of places) → IsTable names →
+pub known_triple : (names : List (Option Name)) (vertices : List Vertex) (places : List (Link × Places)) (t : Triple) (known : Option ℕ) →
+    IsNamed names vertices (keys_of places) → IsTable names →
     MatchOption known (IsUnknown names t.label) (λ n. text_at names n ≡ Some t.label) → has_triple (kept_graph names vertices (keys_of places)) t ≡ known_stands places known t.src t.dst
 known_triple names vertices places t None h tab found = has_triple_unknown names vertices (keys_of places) h t found
 known_triple names vertices places t (Some n) h tab found =
@@ -60,7 +67,8 @@ none_from None e = refl
 none_from (Some x) e = cc
 
 -- a new triple has no place
-pub absent_link : (names : List (Option Name)) (vertices : List Vertex) (places : List (Link × Places)) (k : Link) (text : List ℕ) → IsNamed names vertices (keys_of places) → IsTable names →
+pub absent_link : (names : List (Option Name)) (vertices : List Vertex) (places : List (Link × Places)) (k : Link) (text : List ℕ) →
+    IsNamed names vertices (keys_of places) → IsTable names →
     MatchOption (slot names k.label) (IsUnknown names text) (λ x. x.text ≡ text) → has_triple (kept_graph names vertices (keys_of places)) (record { src = k.src; label = text; dst = k.dst }) ≡ false →
     lookup (link_eq k) places ≡ None
 absent_link names vertices places k text h tab was absent = none_from (lookup (link_eq k) places) (is_some-lookup (link_eq k) places ∙ by (list_any (link_eq k) (keys_of places)) refl)
@@ -100,12 +108,14 @@ unfolding IsDistinct
 distinct_tail l ls d = d.1
 
 -- how many label names there would be, by the table and whether the label has a number
-pub name_count_is : (names : List (Option Name)) (vertices : List Vertex) (links : List Link) (text : List ℕ) (known : Option ℕ) → IsNamed names vertices links → IsTable names →
+pub name_count_is : (names : List (Option Name)) (vertices : List Vertex) (links : List Link) (text : List ℕ) (known : Option ℕ) →
+    IsNamed names vertices links → IsTable names →
     MatchOption known (IsUnknown names text) (λ n. text_at names n ≡ Some text) → name_count (kept_graph names vertices links) (text ∷ []) ≡ count_by is_some names + (if is_some known then 0 else 1)
 name_count_is names vertices links text known h tab found = names_counted names vertices links h tab text known found
 
 -- the graph has as many triples as there are links
-pub triple_count : (names : List (Option Name)) (vertices : List Vertex) (links : List Link) → IsNamed names vertices links → IsTable names → IsDistinct link_eq links → length (sorted triple_cmp (map (triple_of names) links)) ≡ length links
+pub triple_count : (names : List (Option Name)) (vertices : List Vertex) (links : List Link) → IsNamed names vertices links →
+    IsTable names → IsDistinct link_eq links → length (sorted triple_cmp (map (triple_of names) links)) ≡ length links
 triple_count names vertices links h tab apart =
     length_sorted triple_cmp triple_total triple_exact (map (triple_of names) links) (each links (λ l i. i) apart) ∙ length-map links (triple_of names)
   where
@@ -122,7 +132,8 @@ triple_count names vertices links h tab apart =
     )
 
 -- whether a limit leaves no room, by the counts that the store has
-pub full_is : (limits : Limits) (names : List (Option Name)) (vertices : List Vertex) (links : List Link) (text : List ℕ) (known : Option ℕ) (count : ℕ) (name : ℕ) → IsNamed names vertices links → IsTable names → IsDistinct link_eq links →
+pub full_is : (limits : Limits) (names : List (Option Name)) (vertices : List Vertex) (links : List Link) (text : List ℕ) (known : Option ℕ)
+    (count : ℕ) (name : ℕ) → IsNamed names vertices links → IsTable names → IsDistinct link_eq links →
     MatchOption known (IsUnknown names text) (λ n. text_at names n ≡ Some text) → count ≡ length links → name ≡ count_by is_some names →
     nat_le limits.edges (length (sorted triple_cmp (map (triple_of names) links))) || nat_lt limits.labels (name_count (kept_graph names vertices links) (text ∷ [])) ≡ nat_le limits.edges count || nat_lt limits.labels (name + (if is_some known then 0 else 1))
 full_is limits names vertices links text known count name h tab apart found c n =

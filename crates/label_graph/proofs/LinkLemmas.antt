@@ -12,18 +12,21 @@ use Rattle.label_graph.specs.Places.{AreInverse, ArePlaced, link_eq, out_place, 
 use Rattle.label_graph.proofs.PlaceLemmas.{link_same}
 
 -- functions that answer as these do are inverse too
-pub same_inverse : {A B : Type 0} (f f' : A → Option B) (g g' : B → Option A) → ((a : A) → f' a ≡ f a) → ((b : B) → g' b ≡ g b) → AreInverse f g → AreInverse f' g'
+pub same_inverse : {A B : Type 0} (f f' : A → Option B) (g g' : B → Option A) → ((a : A) → f' a ≡ f a) → ((b : B) → g' b ≡ g b) →
+    AreInverse f g → AreInverse f' g'
 same_inverse f f' g g' fs gs h = record {
   there = λ a b e. gs b ∙ h.there a b (sym (fs a) ∙ e);
   back = λ b a e. fs a ∙ h.back b a (sym (gs b) ∙ e);
 }
 
 -- the same rows have the same links at their places
-pub same_rows : (link : ℕ → RowEntry → Link) (rows rows' : ℕ → List RowEntry) → ((q : ℕ) → rows' q ≡ rows q) → (a : ℕ × ℕ) → link_at link rows' a ≡ link_at link rows a
+pub same_rows : (link : ℕ → RowEntry → Link) (rows rows' : ℕ → List RowEntry) → ((q : ℕ) → rows' q ≡ rows q) → (a : ℕ × ℕ) →
+    link_at link rows' a ≡ link_at link rows a
 same_rows link rows rows' h a = ap (λ (l : List RowEntry). option_map (link a.0) (slice_get l a.1)) (h a.0)
 
 -- rows and places that answer as these do belong together too
-pub same_placed : (nodes nodes' : List (ℕ × Node)) (places places' : List (Link × Places)) → ((q : ℕ) → outs nodes' q ≡ outs nodes q) → ((q : ℕ) → ins nodes' q ≡ ins nodes q) →
+pub same_placed : (nodes nodes' : List (ℕ × Node)) (places places' : List (Link × Places)) → ((q : ℕ) → outs nodes' q ≡ outs nodes q) →
+    ((q : ℕ) → ins nodes' q ≡ ins nodes q) →
     ((q : Link) → lookup (link_eq q) places' ≡ lookup (link_eq q) places) → ArePlaced nodes places → ArePlaced nodes' places'
 same_placed nodes nodes' places places' os is ps h = record {
   outs = same_inverse (link_at out_link (outs nodes)) (link_at out_link (outs nodes')) (out_place places) (out_place places')
@@ -38,25 +41,30 @@ module _ {X : Type 0} (part : Link → Places → X) (m n : List (Link × Places
       (q : Link) → option_map (part q) (lookup (link_eq q) n) ≡ cond (link_eq k q) (Some (part k new)) (option_map (part q) (lookup (link_eq q) m))
   set_part new set q = by (link_eq k q) refl
     where
-      by : (b : Bool) → link_eq k q ≡ b → option_map (part q) (lookup (link_eq q) n) ≡ cond (link_eq k q) (Some (part k new)) (option_map (part q) (lookup (link_eq q) m))
+      by : (b : Bool) → link_eq k q ≡ b → option_map (part q) (lookup (link_eq q) n)
+          ≡ cond (link_eq k q) (Some (part k new)) (option_map (part q) (lookup (link_eq q) m))
       by true e = rw (set q, e) (let P : Link → Type 0 = λ x. Some (part x new) ≡ Some (part k new) in subst P (link_same k q e) refl)
       by false e = rw (set q, e) refl
 
   -- a key that is gone, put back
-  pub restored_part : (was : Places) → lookup (link_eq k) m ≡ Some was → ((q : Link) → lookup (link_eq q) n ≡ cond (link_eq k q) None (lookup (link_eq q) m)) →
+  pub restored_part : (was : Places) → lookup (link_eq k) m ≡ Some was →
+      ((q : Link) → lookup (link_eq q) n ≡ cond (link_eq k q) None (lookup (link_eq q) m)) →
       (q : Link) → cond (link_eq k q) (Some (part k was)) (option_map (part q) (lookup (link_eq q) n)) ≡ option_map (part q) (lookup (link_eq q) m)
   restored_part was at set q = by (link_eq k q) refl
     where
-      by : (b : Bool) → link_eq k q ≡ b → cond (link_eq k q) (Some (part k was)) (option_map (part q) (lookup (link_eq q) n)) ≡ option_map (part q) (lookup (link_eq q) m)
+      by : (b : Bool) → link_eq k q ≡ b → cond (link_eq k q) (Some (part k was)) (option_map (part q) (lookup (link_eq q) n))
+          ≡ option_map (part q) (lookup (link_eq q) m)
       by true e = rw e (let P : Link → Type 0 = λ x. Some (part k was) ≡ option_map (part x) (lookup (link_eq x) m) in subst P (link_same k q e) (rw at refl))
       by false e = rw (e, set q, e) refl
 
 -- a link that is taken away leaves the other links
-pub keys_removed : (k : Link) (es : List (Link × Places)) (v : Places) → lookup (link_eq k) es ≡ Some v → IsPermutation (keys_of es) (k ∷ keys_of (remove_entry (link_eq k) es))
+pub keys_removed : (k : Link) (es : List (Link × Places)) (v : Places) → lookup (link_eq k) es ≡ Some v →
+    IsPermutation (keys_of es) (k ∷ keys_of (remove_entry (link_eq k) es))
 keys_removed k [] v h = absurd (none-some v h)
 keys_removed k (e ∷ es) v h = by (link_eq k e.0) refl (keys_removed k es v)
   where
-    by : (b : Bool) → link_eq k e.0 ≡ b → (lookup (link_eq k) es ≡ Some v → IsPermutation (keys_of es) (k ∷ keys_of (remove_entry (link_eq k) es))) →
+    by : (b : Bool) → link_eq k e.0 ≡ b → (lookup (link_eq k) es ≡ Some v →
+        IsPermutation (keys_of es) (k ∷ keys_of (remove_entry (link_eq k) es))) →
         IsPermutation (keys_of (e ∷ es)) (k ∷ keys_of (remove_entry (link_eq k) (e ∷ es)))
     by true q ih = rw q (let P : Link → Type 0 = λ x. IsPermutation (x ∷ keys_of es) (k ∷ keys_of es) in subst P (link_same k e.0 q) (IsPermutation-refl (k ∷ keys_of es)))
     by false q ih = rw q (IsPermutation-trans (e.0 ∷ keys_of es) (e.0 ∷ k ∷ keys_of (remove_entry (link_eq k) es)) (k ∷ e.0 ∷ keys_of (remove_entry (link_eq k) es))

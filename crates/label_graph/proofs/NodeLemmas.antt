@@ -19,15 +19,18 @@ stands_in None i lt = absurd (omega arith)
 stands_in (Some p) i lt = refl
 
 -- a vertex whose rows change is the same vertex
-pub vertices_kept : (test : ℕ → Bool) (es : List (ℕ × Node)) (v w : Node) → lookup test es ≡ Some v → w.labels ≡ v.labels → map vertex_of (set_value test es w) ≡ map vertex_of es
+pub vertices_kept : (test : ℕ → Bool) (es : List (ℕ × Node)) (v w : Node) → lookup test es ≡ Some v → w.labels ≡ v.labels →
+    map vertex_of (set_value test es w) ≡ map vertex_of es
 vertices_kept test [] v w h e = refl
 vertices_kept test (x ∷ xs) v w h e = by (test x.0) refl h (vertices_kept test xs v w)
   where
-    by : (b : Bool) → test x.0 ≡ b → lookup test (x ∷ xs) ≡ Some v → (lookup test xs ≡ Some v → w.labels ≡ v.labels → map vertex_of (set_value test xs w) ≡ map vertex_of xs) →
+    by : (b : Bool) → test x.0 ≡ b → lookup test (x ∷ xs) ≡ Some v →
+        (lookup test xs ≡ Some v → w.labels ≡ v.labels → map vertex_of (set_value test xs w) ≡ map vertex_of xs) →
         map vertex_of (set_value test (x ∷ xs) w) ≡ map vertex_of (x ∷ xs)
     by true q l ih = let s = same_Some x.1 v (rw q at l) in rw (q, e, s) refl
     by false q l ih = rw q (ap (λ r. vertex_of x ∷ r) (ih (rw q at l) e))
 
 -- a vertex stays one where the ids are the same
-pub stands_by_keys : (test : ℕ → Bool) (es fs : List (ℕ × Node)) → keys_of fs ≡ keys_of es → IsSome (lookup test es) → IsSome (lookup test fs)
+pub stands_by_keys : (test : ℕ → Bool) (es fs : List (ℕ × Node)) → keys_of fs ≡ keys_of es → IsSome (lookup test es) →
+    IsSome (lookup test fs)
 stands_by_keys test es fs e h = is_some-lookup test fs ∙ (ap (list_any test) e ∙ (sym (is_some-lookup test es) ∙ h))

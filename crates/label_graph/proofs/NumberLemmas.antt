@@ -25,8 +25,10 @@ none_pass : {X : Type 0} (p : X → Bool) (xs : List X) → ((x : X) → In xs x
 none_pass p [] h = refl
 none_pass p (x ∷ xs) h = rw (h x (inl refl)) (none_pass p xs (λ y i. h y (inr i)))
 
-module _ (names : List (Option Name)) (vertices : List Vertex) (links : List Link) (n : IsNamed names vertices links) (text : List ℕ) (unknown : IsUnknown names text) where
-  other_label : (t : Triple) → In (sorted triple_cmp (map (triple_of names) links)) t → (b : Bool) → bytes_eq text t.label ≡ b → bytes_eq text t.label ≡ false
+module _ (names : List (Option Name)) (vertices : List Vertex) (links : List Link) (n : IsNamed names vertices links) (text : List ℕ)
+    (unknown : IsUnknown names text) where
+  other_label : (t : Triple) → In (sorted triple_cmp (map (triple_of names) links)) t → (b : Bool) → bytes_eq text t.label ≡ b →
+      bytes_eq text t.label ≡ false
   other_label t i true e =
       let m = mapped_in (triple_of names) links t (sorted_in triple_cmp triple_total (map (triple_of names) links) t i) in
       let w = known_label names vertices links n m.0 m.1 in
@@ -39,7 +41,8 @@ module _ (names : List (Option Name)) (vertices : List Vertex) (links : List Lin
   lacks = none_pass (λ (t : Triple). bytes_eq text t.label) (sorted triple_cmp (map (triple_of names) links)) (λ t i. other_label t i (bytes_eq text t.label) refl)
 
 -- what a look-up of the name answered
-pub lacks_where_none : (names : List (Option Name)) (vertices : List Vertex) (links : List Link) → IsNamed names vertices links → (text : List ℕ) (found : Option ℕ) →
+pub lacks_where_none : (names : List (Option Name)) (vertices : List Vertex) (links : List Link) → IsNamed names vertices links →
+    (text : List ℕ) (found : Option ℕ) →
     MatchOption found (IsUnknown names text) (λ n. text_at names n ≡ Some text) → IfNone found (LacksLabel text (kept_graph names vertices links).triples)
 lacks_where_none names vertices links n text None h = lacks names vertices links n text h
 lacks_where_none names vertices links n text (Some k) h = tt
@@ -56,9 +59,11 @@ module _ (names : List (Option Name)) (vertices : List Vertex) (links : List Lin
   none_stands free false e = e
 
   -- whether the link stands is whether its triple does
-  pub stands_by : IsTable names → list_any (link_eq k) links ≡ has_triple_by (kept_graph names vertices links) (text_at names k.label) k.src k.dst
+  pub stands_by : IsTable names → list_any (link_eq k) links
+      ≡ has_triple_by (kept_graph names vertices links) (text_at names k.label) k.src k.dst
   stands_by tab = by (text_at names k.label) refl
     where
-      by : (o : Option (List ℕ)) → text_at names k.label ≡ o → list_any (link_eq k) links ≡ has_triple_by (kept_graph names vertices links) o k.src k.dst
+      by : (o : Option (List ℕ)) → text_at names k.label ≡ o →
+          list_any (link_eq k) links ≡ has_triple_by (kept_graph names vertices links) o k.src k.dst
       by None e = none_stands e (list_any (link_eq k) links) refl
       by (Some text) e = sym (has_triple_found names vertices links n tab k text e)

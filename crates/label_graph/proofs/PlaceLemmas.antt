@@ -1,5 +1,6 @@
 -- Places in rows.
-use Rattle.std.proofs.Common.{◌≡◌, ℕ, ◌<◌, ◌≤◌, Bool, true, false, cond, Option, Some, None, List, [], ◌∷◌, ◌++◌, length, refl, sym, ap, ◌∙◌, subst, ⊎_elim, ◌⊎◌, inl, inr, arith, zero, suc, length-append}
+use Rattle.std.proofs.Common.{◌≡◌, ℕ, ◌<◌, ◌≤◌, Bool, true, false, cond, Option, Some, None, List, [], ◌∷◌, ◌++◌, length, refl, sym, ap}
+use Rattle.std.proofs.Common.{◌∙◌, subst, ⊎_elim, ◌⊎◌, inl, inr, arith, zero, suc, length-append}
 use Rattle.std.specs.Prelude.{◌==◌, option_map, slice_get, IsSome, is_some}
 use Rattle.std.specs.Map.{lookup}
 use Rattle.std.proofs.lemmas.Bool.{and_parts, eqb-true, eq-eqb, cases_eq, cases_lt}
@@ -10,7 +11,8 @@ use Rattle.label_graph.specs.declared.link.Places.{Places}
 use Rattle.label_graph.specs.Places.{AreInverse, link_eq, link_at, IsPulled}
 use Rattle.label_graph.proofs.InverseLemmas.{CanTell, added, removed, moved}
 
-packed : (a b c x y z : ℕ) → a ≡ x → b ≡ y → c ≡ z → ◌≡◌ {A = Link} (record { src = a; label = b; dst = c }) (record { src = x; label = y; dst = z })
+packed : (a b c x y z : ℕ) → a ≡ x → b ≡ y → c ≡ z → ◌≡◌ {A = Link} (record { src = a; label = b; dst = c })
+    (record { src = x; label = y; dst = z })
 packed a b c x y z p q r = cc
 
 -- links that compare as equal are the same
@@ -97,11 +99,13 @@ no_pair : (a b : ℕ × ℕ) → (a ≡ b → ⊥) → a.0 ≡ b.0 → a.1 ≡ b
 no_pair a b n p q = n (pair_same a.0 a.1 b.0 b.1 p q)
 
 -- ---- one entry more
-module _ (link : ℕ → RowEntry → Link) (rows rows' : ℕ → List RowEntry) (v : ℕ) (t : RowEntry) (row : rows' v ≡ rows v ++ t ∷ []) (others : (q : ℕ) → (q ≡ v → ⊥) → rows' q ≡ rows q) where
+module _ (link : ℕ → RowEntry → Link) (rows rows' : ℕ → List RowEntry) (v : ℕ) (t : RowEntry) (row : rows' v ≡ rows v ++ t ∷ [])
+    (others : (q : ℕ) → (q ≡ v → ⊥) → rows' q ≡ rows q) where
   pushed_apart : (a : ℕ × ℕ) → (a ≡ (v, length (rows v)) → ⊥) → link_at link rows' a ≡ link_at link rows a
   pushed_apart a n = ⊎_elim here (λ m. ap (λ (l : List RowEntry). option_map (link a.0) (slice_get l a.1)) (others a.0 m)) (cases_eq a.0 v)
     where
-      same : (l : List RowEntry) → slice_get (l ++ t ∷ []) a.1 ≡ slice_get l a.1 → rows' v ≡ l ++ t ∷ [] → rows v ≡ l → slice_get (rows' v) a.1 ≡ slice_get (rows v) a.1
+      same : (l : List RowEntry) → slice_get (l ++ t ∷ []) a.1 ≡ slice_get l a.1 → rows' v ≡ l ++ t ∷ [] → rows v ≡ l →
+          slice_get (rows' v) a.1 ≡ slice_get (rows v) a.1
       same l h e w = cc
 
       entry : a.0 ≡ v → slice_get (rows' v) a.1 ≡ slice_get (rows v) a.1
@@ -166,7 +170,8 @@ module _ (link : ℕ → RowEntry → Link) (rows rows' : ℕ → List RowEntry)
       (λ q n. rw (link_apart k q n) refl)
 
   -- another was moved
-  moved_from : (t : RowEntry) → slice_get (rows' v) i ≡ Some t → cond (link_eq k (link v t)) (Some (v, i)) (p (link v t)) ≡ Some (v, length (rows' v))
+  moved_from : (t : RowEntry) → slice_get (rows' v) i ≡ Some t →
+      cond (link_eq k (link v t)) (Some (v, i)) (p (link v t)) ≡ Some (v, length (rows' v))
   moved_from t some =
       let lt : i < length (rows' v) = slice_get_within (rows' v) i t some in
       h.there (v, length (rows' v)) (link v t) (ap (option_map (link v)) (sym (row.moved lt) ∙ some))

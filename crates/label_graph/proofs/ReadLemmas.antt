@@ -1,5 +1,6 @@
 -- What a read of a store finds.
-use Rattle.std.proofs.Common.{◌≡◌, ℕ, ◌+◌, ◌≤◌, ◌<◌, Bool, true, false, ◌&&◌, Option, Some, List, [], ◌∷◌, map, length, refl, sym, ap, ◌∙◌, subst, inl, inr, arith}
+use Rattle.std.proofs.Common.{◌≡◌, ℕ, ◌+◌, ◌≤◌, ◌<◌, Bool, true, false, ◌&&◌, Option, Some, List, [], ◌∷◌, map, length, refl, sym, ap, ◌∙◌}
+use Rattle.std.proofs.Common.{subst, inl, inr, arith}
 use Rattle.std.specs.Prelude.{◌==◌, nat_eq, IsPermutation}
 use Rattle.std.specs.List.{find, list_any, AllByRecursion, IsDistinct}
 use Rattle.std.specs.Map.{lookup, keys_of}
@@ -33,7 +34,8 @@ use Rattle.label_graph.proofs.StoreLemmas.{vertex_total}
 
 -- ---- the one element that passes a test
 
-find_one : {X : Type 0} (p : X → Bool) (xs : List X) (x : X) → In xs x → p x ≡ true → ((y : X) → In xs y → p y ≡ true → y ≡ x) → find p xs ≡ Some x
+find_one : {X : Type 0} (p : X → Bool) (xs : List X) (x : X) → In xs x → p x ≡ true → ((y : X) → In xs y → p y ≡ true → y ≡ x) →
+    find p xs ≡ Some x
 find_one p [] x i h one = absurd i
 find_one {X} p (y ∷ ys) x i h one = by (p y) refl i (λ j. find_one p ys x j h (λ z k. one z (inr k)))
   where
@@ -42,7 +44,8 @@ find_one {X} p (y ∷ ys) x i h one = by (p y) refl i (λ j. find_one p ys x j h
     by false e (inl q) ih = let r : p x ≡ false = rw q e in let k = h in cc
     by false e (inr j) ih = rw e (ih j)
 
-any_one : {X : Type 0} (p q : X → Bool) (xs : List X) (x : X) → In xs x → p x ≡ true → ((y : X) → In xs y → p y ≡ true → y ≡ x) → list_any (λ y. p y && q y) xs ≡ q x
+any_one : {X : Type 0} (p q : X → Bool) (xs : List X) (x : X) → In xs x → p x ≡ true → ((y : X) → In xs y → p y ≡ true → y ≡ x) →
+    list_any (λ y. p y && q y) xs ≡ q x
 any_one {X} p q xs x i h one = by (q x) refl
   where
     none : q x ≡ false → (b : Bool) → list_any (λ y. p y && q y) xs ≡ b → list_any (λ y. p y && q y) xs ≡ false
@@ -59,23 +62,28 @@ any_one {X} p q xs x i h one = by (q x) refl
 
 -- ---- a vertex that stands
 
-vertex_is : (a x : ℕ) (b y : List (List ℕ)) → a ≡ x → b ≡ y → ◌≡◌ {A = Vertex} (record { id = a; labels = b }) (record { id = x; labels = y })
+vertex_is : (a x : ℕ) (b y : List (List ℕ)) → a ≡ x → b ≡ y →
+    ◌≡◌ {A = Vertex} (record { id = a; labels = b }) (record { id = x; labels = y })
 vertex_is a x b y p q = cc
 
-node_in : (es : List (ℕ × Node)) (v : ℕ) (p : Node) → lookup (nat_eq v) es ≡ Some p → In (map vertex_of es) (record { id = v; labels = p.labels })
+node_in : (es : List (ℕ × Node)) (v : ℕ) (p : Node) → lookup (nat_eq v) es ≡ Some p →
+    In (map vertex_of es) (record { id = v; labels = p.labels })
 node_in [] v p e = absurd (none-some p e)
 node_in (x ∷ xs) v p e = by (nat_eq v x.0) refl e (node_in xs v p)
   where
-    by : (b : Bool) → nat_eq v x.0 ≡ b → lookup (nat_eq v) (x ∷ xs) ≡ Some p → (lookup (nat_eq v) xs ≡ Some p → In (map vertex_of xs) (record { id = v; labels = p.labels })) →
+    by : (b : Bool) → nat_eq v x.0 ≡ b → lookup (nat_eq v) (x ∷ xs) ≡ Some p →
+        (lookup (nat_eq v) xs ≡ Some p → In (map vertex_of xs) (record { id = v; labels = p.labels })) →
         In (map vertex_of (x ∷ xs)) (record { id = v; labels = p.labels })
     by true q l ih = let s = same_Some x.1 p (rw q at l) in inl (vertex_is v x.0 p.labels x.1.labels (eqb-true v x.0 q) (ap (λ (n : Node). n.labels) (sym s)))
     by false q l ih = inr (ih (rw q at l))
 
 module _ (names : List (Option Name)) (nodes : List (ℕ × Node)) (links : List Link) (n : IsNamed names (map vertex_of nodes) links) where
-  stands : (v : ℕ) (p : Node) → lookup (nat_eq v) nodes ≡ Some p → In (sorted vertex_cmp (map vertex_of nodes)) (record { id = v; labels = p.labels })
+  stands : (v : ℕ) (p : Node) → lookup (nat_eq v) nodes ≡ Some p →
+      In (sorted vertex_cmp (map vertex_of nodes)) (record { id = v; labels = p.labels })
   stands v p e = in_sorted vertex_cmp vertex_total (map vertex_of nodes) (λ a b i j q. n.one_each a b i j (exact_unsigned a.id b.id q)) (record { id = v; labels = p.labels }) (node_in nodes v p e)
 
-  one : (v : ℕ) (p : Node) → lookup (nat_eq v) nodes ≡ Some p → (w : Vertex) → In (sorted vertex_cmp (map vertex_of nodes)) w → (w.id == v) ≡ true → w ≡ record { id = v; labels = p.labels }
+  one : (v : ℕ) (p : Node) → lookup (nat_eq v) nodes ≡ Some p → (w : Vertex) → In (sorted vertex_cmp (map vertex_of nodes)) w →
+      (w.id == v) ≡ true → w ≡ record { id = v; labels = p.labels }
   one v p e w i q = n.one_each w (record { id = v; labels = p.labels }) (sorted_in vertex_cmp vertex_total (map vertex_of nodes) w i) (node_in nodes v p e) (eqb-true w.id v q)
 
   -- the labels of a node are those of the vertex
@@ -83,7 +91,8 @@ module _ (names : List (Option Name)) (nodes : List (ℕ × Node)) (links : List
   labels_found v p e = find_one (λ (w : Vertex). w.id == v) (sorted vertex_cmp (map vertex_of nodes)) (record { id = v; labels = p.labels }) (stands v p e) (eq-eqb v v refl) (one v p e)
 
   -- a vertex has each of the labels where its node has
-  pub fits_found : (v : ℕ) (p : Node) (labels : List (List ℕ)) → lookup (nat_eq v) nodes ≡ Some p → fits_labels (kept_graph names (map vertex_of nodes) links) labels v ≡ is_within labels p.labels
+  pub fits_found : (v : ℕ) (p : Node) (labels : List (List ℕ)) → lookup (nat_eq v) nodes ≡ Some p →
+      fits_labels (kept_graph names (map vertex_of nodes) links) labels v ≡ is_within labels p.labels
   fits_found v p labels e = any_one (λ (w : Vertex). w.id == v) (λ (w : Vertex). is_within labels w.labels) (sorted vertex_cmp (map vertex_of nodes)) (record { id = v; labels = p.labels }) (stands v p e) (eq-eqb v v refl) (one v p e)
 
 -- ---- the vertices, each once
@@ -113,7 +122,8 @@ vertex_key es v i =
     let P : Vertex → Type 0 = λ w. In (keys_of es) w.id in
     subst P (sym e.2) (in_mapped (λ (e : ℕ × Node). e.0) es e.0 e.1)
 
-module _ (names : List (Option Name)) (nodes : List (ℕ × Node)) (links : List Link) (n : IsNamed names (map vertex_of nodes) links) (distinct : IsDistinct nat_eq (keys_of nodes)) where
+module _ (names : List (Option Name)) (nodes : List (ℕ × Node)) (links : List Link) (n : IsNamed names (map vertex_of nodes) links)
+    (distinct : IsDistinct nat_eq (keys_of nodes)) where
   -- the ids of the nodes are those of the vertices
   pub ids_listed : IsPermutation (keys_of nodes) (ids (kept_graph names (map vertex_of nodes) links))
   ids_listed = once_permutation (keys_of nodes) (map (λ (v : Vertex). v.id) (sorted vertex_cmp (map vertex_of nodes)))
@@ -153,7 +163,8 @@ length_sorted R [] = omega arith
 length_sorted R (x ∷ xs) = let p = length_put R x (sorted R xs) in let l = length_sorted R xs in omega arith
 
 -- a place among the vertices is one among the nodes
-pub within_nodes : (names : List (Option Name)) (nodes : List (ℕ × Node)) (links : List Link) (i : ℕ) → i < length (kept_graph names (map vertex_of nodes) links).vertices → i < length nodes
+pub within_nodes : (names : List (Option Name)) (nodes : List (ℕ × Node)) (links : List Link) (i : ℕ) →
+    i < length (kept_graph names (map vertex_of nodes) links).vertices → i < length nodes
 within_nodes names nodes links i lt =
     let l = length_sorted vertex_cmp (map vertex_of nodes) in
     let m = length-map nodes vertex_of in omega arith

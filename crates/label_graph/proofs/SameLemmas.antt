@@ -11,10 +11,12 @@ module _ (names names' : List (Option Name)) (slots : (q : ℕ) → slot names' 
   same_triple : (k : Link) → triple_of names' k ≡ triple_of names k
   same_triple k = ap (λ (o : Option Name). record { src = k.src; label = unwrap_or (option_map (λ x. x.text) o) []; dst = k.dst }) (slots k.label)
 
-  same_entries : (link : RowEntry → Link) (row : List RowEntry) → map (λ t. triple_of names' (link t)) row ≡ map (λ t. triple_of names (link t)) row
+  same_entries : (link : RowEntry → Link) (row : List RowEntry) →
+      map (λ t. triple_of names' (link t)) row ≡ map (λ t. triple_of names (link t)) row
   same_entries link [] = refl
   same_entries link (t ∷ row) = rw (same_triple (link t), same_entries link row) refl
 
   -- a row means the same triples from each place on
-  pub same_row : (link : RowEntry → Link) (row row' : List RowEntry) (at : ℕ) → row' ≡ row → row_from names' link row' at ≡ row_from names link row at
+  pub same_row : (link : RowEntry → Link) (row row' : List RowEntry) (at : ℕ) → row' ≡ row →
+      row_from names' link row' at ≡ row_from names link row at
   same_row link row row' at e = ap (λ (r : List RowEntry). row_from names' link r at) e ∙ same_entries link (drop at row)

@@ -1,5 +1,6 @@
 -- Sets of names that are used once more or once less.
-use Rattle.std.proofs.Common.{◌≡◌, ℕ, zero, suc, ◌+◌, ◌-◌, Bool, true, false, ◌||◌, not, Option, Some, None, List, [], ◌∷◌, drop, take, get_or, refl, sym, ap, ◌∙◌, subst, ⊎_elim, arith}
+use Rattle.std.proofs.Common.{◌≡◌, ℕ, zero, suc, ◌+◌, ◌-◌, Bool, true, false, ◌||◌, not, Option, Some, None, List, [], ◌∷◌, drop, take}
+use Rattle.std.proofs.Common.{get_or, refl, sym, ap, ◌∙◌, subst, ⊎_elim, arith}
 use Rattle.std.specs.Prelude.{MatchOption, option_map, slice_get, is_some, nat_le, unwrap_or, count_by, if◌then◌else◌}
 use Rattle.std.specs.Ordering.{is_eq}
 use Rattle.std.specs.Cmp.Lexicographic.{nat_list_cmp_total}
@@ -71,7 +72,8 @@ ascending_left [] (suc i) a = a
 ascending_left (t ∷ rest) (suc i) a = ascending_left rest i (tail_ascending text_cmp nat_list_cmp_total t rest a)
 
 -- a text of a set does not come again behind its place
-pub not_left : (set : List (List ℕ)) (i : ℕ) (t : List ℕ) → is_ascending text_cmp set ≡ true → slice_get set i ≡ Some t → is_in text_cmp t (drop (i + 1) set) ≡ false
+pub not_left : (set : List (List ℕ)) (i : ℕ) (t : List ℕ) → is_ascending text_cmp set ≡ true → slice_get set i ≡ Some t →
+    is_in text_cmp t (drop (i + 1) set) ≡ false
 not_left set i t a e =
     let P : List (List ℕ) → Type 0 = λ l. is_ascending text_cmp l ≡ true in
     not_later t (drop (i + 1) set) (subst P (left_at set i t e) (ascending_left set i a))
@@ -95,12 +97,14 @@ raised_text set x = by (is_in text_cmp x.text set) refl
     by false e = rw e refl
 
 -- a text that a number stands for keeps it
-pub text_kept : (set : List (List ℕ)) (old new : List (Option Name)) → IsRaised set old new → (n : ℕ) (t : List ℕ) → text_at old n ≡ Some t → text_at new n ≡ Some t
+pub text_kept : (set : List (List ℕ)) (old new : List (Option Name)) → IsRaised set old new → (n : ℕ) (t : List ℕ) →
+    text_at old n ≡ Some t → text_at new n ≡ Some t
 text_kept set old new h n t e =
     let x = known_slot old n t e in
     text_of_slot new n (raised_in set x.0) (h.kept n x.0 x.1) ∙ ap Some (raised_text set x.0 ∙ x.2)
 
-module _ (t : List ℕ) (rest : List (List ℕ)) (old mid new : List (Option Name)) (k : ℕ) (apart : is_in text_cmp t rest ≡ false) (tab : IsTable old)
+module _ (t : List ℕ) (rest : List (List ℕ)) (old mid new : List (Option Name)) (k : ℕ) (apart : is_in text_cmp t rest ≡ false)
+    (tab : IsTable old)
     (was : MatchOption (slot old k) (IsUnknown old t) (λ x. x.text ≡ t))
     (here : slot mid k ≡ Some (record { text = t; uses = uses_of (slot old k) + 1 }))
     (others : (q : ℕ) → (q ≡ k → ⊥) → slot mid q ≡ slot old q) (h : IsRaised rest mid new) where
@@ -134,7 +138,8 @@ module _ (t : List ℕ) (rest : List (List ℕ)) (old mid new : List (Option Nam
       h.kept n x (others n d ∙ e)
       ∙ ap (λ (b : Bool). Some (if b then record x { uses = x.uses + 1 } else x)) (sym (other_in x.text t rest (other_number n x d e)))
 
-  fresh_here : (x : Name) → slot old k ≡ None → slot new k ≡ Some x → (x.uses ≡ 1) × (is_in text_cmp x.text (t ∷ rest) ≡ true) × IsUnknown old x.text
+  fresh_here : (x : Name) → slot old k ≡ None → slot new k ≡ Some x →
+      (x.uses ≡ 1) × (is_in text_cmp x.text (t ∷ rest) ≡ true) × IsUnknown old x.text
   fresh_here x e f =
       let s : record { text = t; uses = uses_of (slot old k) + 1 } ≡ x = same_Some (record { text = t; uses = uses_of (slot old k) + 1 }) x (sym here_after ∙ f) in
       let P : Name → Type 0 = λ z. (z.uses ≡ 1) × (is_in text_cmp z.text (t ∷ rest) ≡ true) × IsUnknown old z.text in
@@ -149,7 +154,8 @@ module _ (t : List ℕ) (rest : List (List ℕ)) (old mid new : List (Option Nam
       subst R (sym s) (ap (option_map (λ (y : Name). y.text)) here ∙ ap Some (sym (text_was x.0 x.1) ∙ x.2)))
       (λ d. ap (option_map (λ (y : Name). y.text)) (others m d) ∙ e) (cases_eq m k)
 
-  fresh_apart : (n : ℕ) (x : Name) → (n ≡ k → ⊥) → slot old n ≡ None → slot new n ≡ Some x → (x.uses ≡ 1) × (is_in text_cmp x.text (t ∷ rest) ≡ true) × IsUnknown old x.text
+  fresh_apart : (n : ℕ) (x : Name) → (n ≡ k → ⊥) → slot old n ≡ None → slot new n ≡ Some x →
+      (x.uses ≡ 1) × (is_in text_cmp x.text (t ∷ rest) ≡ true) × IsUnknown old x.text
   fresh_apart n x d e f =
       let r = h.fresh n x (others n d ∙ e) f in
       (r.0, later (is_eq (text_cmp x.text t)) r.1, λ m g. r.2 m (text_more m x.text g))
@@ -193,7 +199,8 @@ lowered_stays set x e = by (nat_le x.uses 1) refl
     by false f = rw f (lowered_apart set (record x { uses = x.uses - 1 }) e)
 
 -- one text, and then the others
-pub lowered_more : (t : List ℕ) (rest : List (List ℕ)) → is_in text_cmp t rest ≡ false → (o : Option Name) → lowered_in rest (lowered_in (t ∷ []) o) ≡ lowered_in (t ∷ rest) o
+pub lowered_more : (t : List ℕ) (rest : List (List ℕ)) → is_in text_cmp t rest ≡ false → (o : Option Name) →
+    lowered_in rest (lowered_in (t ∷ []) o) ≡ lowered_in (t ∷ rest) o
 lowered_more t rest apart None = refl
 lowered_more t rest apart (Some x) = by (is_eq (text_cmp x.text t)) refl
   where
@@ -205,7 +212,8 @@ lowered_more t rest apart (Some x) = by (is_eq (text_cmp x.text t)) refl
     by false e = rw e refl
 
 -- the one text
-pub lowered_one : (t : List ℕ) (old new : List (Option Name)) (k : ℕ) → IsTable old → text_at old k ≡ Some t → slot new k ≡ lowered (slot old k) → ((q : ℕ) → (q ≡ k → ⊥) → slot new q ≡ slot old q) →
+pub lowered_one : (t : List ℕ) (old new : List (Option Name)) (k : ℕ) → IsTable old → text_at old k ≡ Some t →
+    slot new k ≡ lowered (slot old k) → ((q : ℕ) → (q ≡ k → ⊥) → slot new q ≡ slot old q) →
     (q : ℕ) → slot new q ≡ lowered_in (t ∷ []) (slot old q)
 lowered_one t old new k tab found here others q = ⊎_elim
     (λ s.
@@ -223,7 +231,8 @@ lowered_one t old new k tab found here others q = ⊎_elim
         rw e (sym (lowered_apart (t ∷ []) y (other_in y.text t [] n)))
 
 -- a text that no number stands for
-pub lowered_unknown : (t : List ℕ) (names : List (Option Name)) → IsUnknown names t → (q : ℕ) → slot names q ≡ lowered_in (t ∷ []) (slot names q)
+pub lowered_unknown : (t : List ℕ) (names : List (Option Name)) → IsUnknown names t → (q : ℕ) →
+    slot names q ≡ lowered_in (t ∷ []) (slot names q)
 lowered_unknown t names unknown q = by (slot names q) refl
   where
     by : (o : Option Name) → slot names q ≡ o → slot names q ≡ lowered_in (t ∷ []) (slot names q)
@@ -253,7 +262,8 @@ known_some (Some x ∷ rest) (suc n) t e = later (is_eq (text_cmp t x.text)) (kn
     later false g = g
 
 -- by what a look-up of the text answered
-pub known_is : (names : List (Option Name)) (t : List ℕ) (found : Option ℕ) → MatchOption found (IsUnknown names t) (λ n. text_at names n ≡ Some t) → is_known names t ≡ is_some found
+pub known_is : (names : List (Option Name)) (t : List ℕ) (found : Option ℕ) →
+    MatchOption found (IsUnknown names t) (λ n. text_at names n ≡ Some t) → is_known names t ≡ is_some found
 known_is names t None unknown = known_none names t unknown
 known_is names t (Some n) e = known_some names n t e
 
@@ -263,7 +273,8 @@ other_way true b e = rw (sym e) refl
 other_way false b e = rw (sym e) refl
 
 -- one more of those that are counted, or as many
-pub count_more : (p : List ℕ → Bool) (set : List (List ℕ)) (i count more : ℕ) (t : List ℕ) → slice_get set i ≡ Some t → p t ≡ true → more ≡ count + 1 → count ≡ count_by p (take i set) →
+pub count_more : (p : List ℕ → Bool) (set : List (List ℕ)) (i count more : ℕ) (t : List ℕ) → slice_get set i ≡ Some t → p t ≡ true →
+    more ≡ count + 1 → count ≡ count_by p (take i set) →
     more ≡ count_by p (take (i + 1) set)
 count_more p set i count more t at e m c =
     let here : get_or set i t ≡ t = sym (unwrap_or-slice_get set i t) ∙ ap (λ (o : Option (List ℕ)). unwrap_or o t) at in
@@ -271,7 +282,8 @@ count_more p set i count more t at e m c =
     omega (arith, c, m, n)
 
 -- a count stays behind a text that fails the test
-pub count_same : (p : List ℕ → Bool) (set : List (List ℕ)) (i count more : ℕ) (t : List ℕ) → slice_get set i ≡ Some t → p t ≡ false → more ≡ count → count ≡ count_by p (take i set) →
+pub count_same : (p : List ℕ → Bool) (set : List (List ℕ)) (i count more : ℕ) (t : List ℕ) → slice_get set i ≡ Some t → p t ≡ false →
+    more ≡ count → count ≡ count_by p (take i set) →
     more ≡ count_by p (take (i + 1) set)
 count_same p set i count more t at e m c =
     let here : get_or set i t ≡ t = sym (unwrap_or-slice_get set i t) ∙ ap (λ (o : Option (List ℕ)). unwrap_or o t) at in
@@ -284,7 +296,8 @@ known_at [] t e = cc
 known_at (None ∷ rest) t e = let r = known_at rest t e in (suc r.0, r.1)
 known_at (Some x ∷ rest) t e = by (is_eq (text_cmp t x.text)) refl (known_at rest t)
   where
-    by : (b : Bool) → is_eq (text_cmp t x.text) ≡ b → (is_known rest t ≡ true → (n : ℕ) × (text_at rest n ≡ Some t)) → (n : ℕ) × (text_at (Some x ∷ rest) n ≡ Some t)
+    by : (b : Bool) → is_eq (text_cmp t x.text) ≡ b → (is_known rest t ≡ true → (n : ℕ) × (text_at rest n ≡ Some t)) →
+        (n : ℕ) × (text_at (Some x ∷ rest) n ≡ Some t)
     by true f ih = (zero, ap Some (sym (same_text t x.text f)))
     by false f ih = let r = ih (rw f at e) in (suc r.0, r.1)
 

@@ -1,5 +1,6 @@
 -- The graph of a store.
-use Rattle.std.proofs.Common.{◌≡◌, ℕ, ◌+◌, ◌-◌, ◌<◌, ◌≤◌, Bool, true, false, ◌&&◌, cond, Option, Some, None, List, [], ◌∷◌, map, not, Ok, Err, refl, sym, ap, ◌∙◌, subst, ⊎_elim, ◌⊎◌, inl, inr, arith}
+use Rattle.std.proofs.Common.{◌≡◌, ℕ, ◌+◌, ◌-◌, ◌<◌, ◌≤◌, Bool, true, false, ◌&&◌, cond, Option, Some, None, List, [], ◌∷◌, map, not, Ok}
+use Rattle.std.proofs.Common.{Err, refl, sym, ap, ◌∙◌, subst, ⊎_elim, ◌⊎◌, inl, inr, arith}
 use Rattle.std.specs.Prelude.{◌==◌, IsSome, is_some, nat_eq, nat_le, IsPermutation, slice_get, MatchOption, option_map, unwrap_or, count_by}
 use Rattle.std.specs.List.{filter, list_any}
 use Rattle.std.specs.Map.{lookup, keys_of}
@@ -16,7 +17,8 @@ use Rattle.std.proofs.lemmas.Option.{none-some, same_Some}
 use Rattle.std.proofs.lemmas.List.Sums.{sum_by-cons}
 use Rattle.std.proofs.lemmas.List.Sorted.{sum_by-IsPermutation, IsPermutation-map}
 use Rattle.flux_model.specs.Text.{text_cmp}
-use Rattle.flux_model.specs.Graph.{Graph, vertex_cmp, triple_cmp, with_triple, without_triple, drop_edge, has_both_ends, has_vertex, has_triple}
+use Rattle.flux_model.specs.Graph.{Graph, vertex_cmp, triple_cmp, with_triple, without_triple, drop_edge, has_both_ends, has_vertex}
+use Rattle.flux_model.specs.Graph.{has_triple}
 use Rattle.flux_model.specs.Ordered.{is_in, put}
 use Rattle.flux_model.specs.declared.graph.Vertex.{Vertex}
 use Rattle.flux_model.specs.declared.graph.Triple.{Triple}
@@ -80,18 +82,21 @@ same_id : (a b : ℕ) → (a == b) ≡ (b == a)
 same_id a b = nat_eq_equiv.symm a b
 
 -- the vertices of the nodes have the ids of the nodes
-pub any_vertex : (es : List (ℕ × Node)) (id : ℕ) → list_any (λ (v : Vertex). v.id == id) (map vertex_of es) ≡ list_any (nat_eq id) (keys_of es)
+pub any_vertex : (es : List (ℕ × Node)) (id : ℕ) → list_any (λ (v : Vertex). v.id == id) (map vertex_of es)
+    ≡ list_any (nat_eq id) (keys_of es)
 any_vertex [] id = refl
 any_vertex (e ∷ es) id = rw (same_id e.0 id, any_vertex es id) refl
 
 -- an id is a vertex where it has a node
-pub has_vertex_of : (names : List (Option Name)) (es : List (ℕ × Node)) (links : List Link) (id : ℕ) → has_vertex (kept_graph names (map vertex_of es) links) id ≡ is_some (lookup (nat_eq id) es)
+pub has_vertex_of : (names : List (Option Name)) (es : List (ℕ × Node)) (links : List Link) (id : ℕ) →
+    has_vertex (kept_graph names (map vertex_of es) links) id ≡ is_some (lookup (nat_eq id) es)
 has_vertex_of names es links id =
     any_sorted vertex_cmp vertex_total (λ (v : Vertex). v.id == id) (λ x y e. ap (λ (n : ℕ). n == id) (exact_unsigned x.id y.id e)) (map vertex_of es)
     ∙ any_vertex es id ∙ sym (is_some-lookup (nat_eq id) es)
 
 -- the number of a link in a store stands for a text
-pub known_label : (names : List (Option Name)) (vertices : List Vertex) (links : List Link) → IsNamed names vertices links → (k : Link) → In links k → (x : Name) × (slot names k.label ≡ Some x)
+pub known_label : (names : List (Option Name)) (vertices : List Vertex) (links : List Link) → IsNamed names vertices links → (k : Link) →
+    In links k → (x : Name) × (slot names k.label ≡ Some x)
 known_label names vertices links h k i = by (slot names k.label) refl
   where
     by : (o : Option Name) → slot names k.label ≡ o → (x : Name) × (slot names k.label ≡ Some x)
@@ -103,17 +108,20 @@ pub text_of_slot : (names : List (Option Name)) (n : ℕ) (x : Name) → slot na
 text_of_slot names n x e = ap (option_map (λ (y : Name). y.text)) e
 
 -- a text has one number at most
-pub one_number : (names : List (Option Name)) → IsTable names → (m n : ℕ) (text : List ℕ) → text_at names m ≡ Some text → text_at names n ≡ Some text → m ≡ n
+pub one_number : (names : List (Option Name)) → IsTable names → (m n : ℕ) (text : List ℕ) → text_at names m ≡ Some text →
+    text_at names n ≡ Some text → m ≡ n
 one_number names t m n text p q =
     let a = option_map_some (λ (y : Name). y.text) (slot names m) text p in
     let b = option_map_some (λ (y : Name). y.text) (slot names n) text q in
     t.distinct m n a.0 b.0 a.1 b.1 (a.2 ∙ sym b.2)
 
-same_link : (a b c x y z : ℕ) → a ≡ x → b ≡ y → c ≡ z → ◌≡◌ {A = Link} (record { src = a; label = b; dst = c }) (record { src = x; label = y; dst = z })
+same_link : (a b c x y z : ℕ) → a ≡ x → b ≡ y → c ≡ z → ◌≡◌ {A = Link} (record { src = a; label = b; dst = c })
+    (record { src = x; label = y; dst = z })
 same_link a b c x y z p q r = cc
 
 -- the triple of a link tells the link
-pub triple_tells : (names : List (Option Name)) (vertices : List Vertex) (links : List Link) → IsNamed names vertices links → IsTable names → (k l : Link) → In links k → (x : Name) → slot names l.label ≡ Some x →
+pub triple_tells : (names : List (Option Name)) (vertices : List Vertex) (links : List Link) → IsNamed names vertices links →
+    IsTable names → (k l : Link) → In links k → (x : Name) → slot names l.label ≡ Some x →
     triple_of names k ≡ triple_of names l → k ≡ l
 triple_tells names vertices links h t k l i x e same =
     let w = known_label names vertices links h k i in
@@ -125,11 +133,13 @@ equal_respects : (t x y : Triple) → triple_cmp x y ≡ Equal → is_eq (triple
 equal_respects t x y e = let P : Triple → Type 0 = λ z. is_eq (triple_cmp t x) ≡ is_eq (triple_cmp t z) in subst P (triple_exact x y e) refl
 
 -- a triple stands where a link means it
-pub any_triple : (names : List (Option Name)) (vertices : List Vertex) (links : List Link) (t : Triple) → has_triple (kept_graph names vertices links) t ≡ list_any (λ s. is_eq (triple_cmp t s)) (map (triple_of names) links)
+pub any_triple : (names : List (Option Name)) (vertices : List Vertex) (links : List Link) (t : Triple) →
+    has_triple (kept_graph names vertices links) t ≡ list_any (λ s. is_eq (triple_cmp t s)) (map (triple_of names) links)
 any_triple names vertices links t = any_sorted triple_cmp triple_total (λ s. is_eq (triple_cmp t s)) (equal_respects t) (map (triple_of names) links)
 
 -- whether the triple of a link stands
-pub has_triple_known : (names : List (Option Name)) (vertices : List Vertex) (links : List Link) → IsNamed names vertices links → IsTable names → (k : Link) (x : Name) → slot names k.label ≡ Some x →
+pub has_triple_known : (names : List (Option Name)) (vertices : List Vertex) (links : List Link) → IsNamed names vertices links →
+    IsTable names → (k : Link) (x : Name) → slot names k.label ≡ Some x →
     has_triple (kept_graph names vertices links) (triple_of names k) ≡ list_any (link_eq k) links
 has_triple_known names vertices links h tab k x e = any_triple names vertices links (triple_of names k) ∙ each links (λ l i. i)
   where
@@ -137,22 +147,26 @@ has_triple_known names vertices links h tab k x e = any_triple names vertices li
     one l i true q = let P : Link → Type 0 = λ m. is_eq (triple_cmp (triple_of names k) (triple_of names m)) ≡ true in subst P (link_same k l q) (ap is_eq (self_equal triple_cmp triple_total (triple_of names k)))
     one l i false q = by (is_eq (triple_cmp (triple_of names k) (triple_of names l))) refl
       where
-        by : (c : Bool) → is_eq (triple_cmp (triple_of names k) (triple_of names l)) ≡ c → is_eq (triple_cmp (triple_of names k) (triple_of names l)) ≡ false
+        by : (c : Bool) → is_eq (triple_cmp (triple_of names k) (triple_of names l)) ≡ c →
+            is_eq (triple_cmp (triple_of names k) (triple_of names l)) ≡ false
         by true r =
             let s = triple_exact (triple_of names k) (triple_of names l) (is_equal (triple_cmp (triple_of names k) (triple_of names l)) r) in
             let u : l ≡ k = triple_tells names vertices links h tab l k i x e (sym s) in
             let v : link_eq k k ≡ false = (let P : Link → Type 0 = λ m. link_eq k m ≡ false in subst P u q) in let w = link_refl k in cc
         by false r = r
 
-    each : (ls : List Link) → ((l : Link) → In ls l → In links l) → list_any (λ s. is_eq (triple_cmp (triple_of names k) s)) (map (triple_of names) ls) ≡ list_any (link_eq k) ls
+    each : (ls : List Link) → ((l : Link) → In ls l → In links l) →
+        list_any (λ s. is_eq (triple_cmp (triple_of names k) s)) (map (triple_of names) ls) ≡ list_any (link_eq k) ls
     each [] f = refl
     each (l ∷ ls) f = rw (one l (f l (inl refl)) (link_eq k l) refl, each ls (λ m i. f m (inr i))) refl
 
 -- no triple has a label that no number stands for
-pub has_triple_unknown : (names : List (Option Name)) (vertices : List Vertex) (links : List Link) → IsNamed names vertices links → (t : Triple) → IsUnknown names t.label → has_triple (kept_graph names vertices links) t ≡ false
+pub has_triple_unknown : (names : List (Option Name)) (vertices : List Vertex) (links : List Link) → IsNamed names vertices links →
+    (t : Triple) → IsUnknown names t.label → has_triple (kept_graph names vertices links) t ≡ false
 has_triple_unknown names vertices links h t unknown = any_triple names vertices links t ∙ each links (λ l i. i)
   where
-    one : (l : Link) → In links l → (b : Bool) → is_eq (triple_cmp t (triple_of names l)) ≡ b → is_eq (triple_cmp t (triple_of names l)) ≡ false
+    one : (l : Link) → In links l → (b : Bool) → is_eq (triple_cmp t (triple_of names l)) ≡ b →
+        is_eq (triple_cmp t (triple_of names l)) ≡ false
     one l i true q =
         let s = triple_exact t (triple_of names l) (is_equal (triple_cmp t (triple_of names l)) q) in
         let w = known_label names vertices links h l i in
@@ -161,20 +175,24 @@ has_triple_unknown names vertices links h t unknown = any_triple names vertices 
         absurd (unknown l.label (text_of_slot names l.label w.0 w.1 ∙ ap Some (sym r)))
     one l i false q = q
 
-    each : (ls : List Link) → ((l : Link) → In ls l → In links l) → list_any (λ s. is_eq (triple_cmp t s)) (map (triple_of names) ls) ≡ false
+    each : (ls : List Link) → ((l : Link) → In ls l → In links l) →
+        list_any (λ s. is_eq (triple_cmp t s)) (map (triple_of names) ls) ≡ false
     each [] f = refl
     each (l ∷ ls) f = rw (one l (f l (inl refl)) (is_eq (triple_cmp t (triple_of names l))) refl) (each ls (λ m i. f m (inr i)))
 
 -- the same, by what a look-up of the name answered
-pub known_slot : (names : List (Option Name)) (n : ℕ) (text : List ℕ) → text_at names n ≡ Some text → (x : Name) × (slot names n ≡ Some x) × (x.text ≡ text)
+pub known_slot : (names : List (Option Name)) (n : ℕ) (text : List ℕ) → text_at names n ≡ Some text →
+    (x : Name) × (slot names n ≡ Some x) × (x.text ≡ text)
 known_slot names n text e = option_map_some (λ (y : Name). y.text) (slot names n) text e
 
 -- what a link means, by the text of its label
-pub triple_is : (names : List (Option Name)) (k : Link) (text : List ℕ) → text_at names k.label ≡ Some text → triple_of names k ≡ record { src = k.src; label = text; dst = k.dst }
+pub triple_is : (names : List (Option Name)) (k : Link) (text : List ℕ) → text_at names k.label ≡ Some text →
+    triple_of names k ≡ record { src = k.src; label = text; dst = k.dst }
 triple_is names k text e = ap (λ (o : Option (List ℕ)). record { src = k.src; label = unwrap_or o []; dst = k.dst }) e
 
 -- a triple stands where the link with the number of its label does
-pub has_triple_found : (names : List (Option Name)) (vertices : List Vertex) (links : List Link) → IsNamed names vertices links → IsTable names → (k : Link) (text : List ℕ) → text_at names k.label ≡ Some text →
+pub has_triple_found : (names : List (Option Name)) (vertices : List Vertex) (links : List Link) → IsNamed names vertices links →
+    IsTable names → (k : Link) (text : List ℕ) → text_at names k.label ≡ Some text →
     has_triple (kept_graph names vertices links) (record { src = k.src; label = text; dst = k.dst }) ≡ list_any (link_eq k) links
 has_triple_found names vertices links h tab k text e =
     let x = known_slot names k.label text e in
@@ -184,7 +202,8 @@ has_triple_found names vertices links h tab k text e =
 -- ---- a triple less
 
 -- a name goes with its last use, and else has one use less
-pub lowered_cases : (x : Name) → ((lowered (Some x) ≡ None) × (x.uses ≤ 1)) ⊎ ((lowered (Some x) ≡ Some (record x { uses = x.uses - 1 })) × (1 < x.uses))
+pub lowered_cases : (x : Name) → ((lowered (Some x) ≡ None) × (x.uses ≤ 1))
+    ⊎ ((lowered (Some x) ≡ Some (record x { uses = x.uses - 1 })) × (1 < x.uses))
 lowered_cases x = ⊎_elim (λ l. inr (rw (lt-leb x.uses 1 l) refl, l)) (λ l. inl (rw (le-leb x.uses 1 l) refl, l)) (cases_lt 1 x.uses)
 
 module _ (names names' : List (Option Name)) (vertices : List Vertex) (links links' : List Link) (k : Link) (x : Name)
@@ -194,7 +213,8 @@ module _ (names names' : List (Option Name)) (vertices : List Vertex) (links lin
   here_is : slot names' k.label ≡ lowered (Some x)
   here_is = here ∙ ap lowered at
 
-  count_left : (q : ℕ) → count_by (λ (l : Link). l.label == q) links ≡ cond (k.label == q) 1 0 + count_by (λ (l : Link). l.label == q) links'
+  count_left : (q : ℕ) → count_by (λ (l : Link). l.label == q) links
+      ≡ cond (k.label == q) 1 0 + count_by (λ (l : Link). l.label == q) links'
   count_left q = sym (count_permutation (λ (l : Link). l.label == q) links (k ∷ links') p) ∙ count_cons (λ (l : Link). l.label == q) k links'
 
   count_here : count_by (λ (l : Link). l.label == k.label) links ≡ 1 + count_by (λ (l : Link). l.label == k.label) links'
@@ -223,7 +243,8 @@ module _ (names names' : List (Option Name)) (vertices : List Vertex) (links lin
       (λ r. let f : None ≡ Some (record x { uses = x.uses - 1 }) = sym e ∙ (here_is ∙ r.0) in absurd (none-some (record x { uses = x.uses - 1 }) f))
       (lowered_cases x)
 
-  borne_here : (text : List ℕ) → IsUnknown names' text → x.text ≡ text → count_by (λ (v : Vertex). is_in text_cmp text v.labels) vertices ≡ 0
+  borne_here : (text : List ℕ) → IsUnknown names' text → x.text ≡ text →
+      count_by (λ (v : Vertex). is_in text_cmp text v.labels) vertices ≡ 0
   borne_here text unknown e = ⊎_elim
       (λ r. let P : List ℕ → Type 0 = λ t. count_by (λ (v : Vertex). is_in text_cmp t v.labels) vertices ≡ 0 in
       subst P e (let c = h.counted k.label x at in let d = count_here in omega (arith, c, d, r.1)))
@@ -280,7 +301,8 @@ module _ (names names' : List (Option Name)) (vertices : List Vertex) (links lin
   stays : (l : Link) → In links' l → not (is_eq (triple_cmp (triple_of names l) (triple_of names k))) ≡ true
   stays l i = by (is_eq (triple_cmp (triple_of names l) (triple_of names k))) refl
     where
-      by : (b : Bool) → is_eq (triple_cmp (triple_of names l) (triple_of names k)) ≡ b → not (is_eq (triple_cmp (triple_of names l) (triple_of names k))) ≡ true
+      by : (b : Bool) → is_eq (triple_cmp (triple_of names l) (triple_of names k)) ≡ b →
+          not (is_eq (triple_cmp (triple_of names l) (triple_of names k))) ≡ true
       by true e =
           let s = triple_exact (triple_of names l) (triple_of names k) (is_equal (triple_cmp (triple_of names l) (triple_of names k)) e) in
           let u : l ≡ k = triple_tells names vertices links h tab l k (in_permutation links (k ∷ links') p l (inr i)) x at s in
@@ -293,7 +315,8 @@ module _ (names names' : List (Option Name)) (vertices : List Vertex) (links lin
   goes = rw (self_equal triple_cmp triple_total (triple_of names k)) refl
 
   -- the triples without that of a link are those of the other links
-  pub triples_without : filter (λ s. not (is_eq (triple_cmp s (triple_of names k)))) (sorted triple_cmp (map (triple_of names) links)) ≡ sorted triple_cmp (map (triple_of names') links')
+  pub triples_without : filter (λ s. not (is_eq (triple_cmp s (triple_of names k)))) (sorted triple_cmp (map (triple_of names) links))
+      ≡ sorted triple_cmp (map (triple_of names') links')
   triples_without =
       let test : Triple → Bool = λ s. not (is_eq (triple_cmp s (triple_of names k))) in
       ascending_same triple_cmp triple_total (filter (λ s. not (is_eq (triple_cmp s (triple_of names k)))) (sorted triple_cmp (map (triple_of names) links))) (sorted triple_cmp (map (triple_of names) links'))
@@ -350,14 +373,16 @@ module _ (names : List (Option Name)) (es : List (ℕ × Node)) (links : List Li
   no_dst e = and_right_false (has_vertex (kept_graph names (map vertex_of es) links) t.src) _ (has_vertex_of names es links t.dst ∙ e)
 
   -- ends with nodes are vertices
-  pub both_ends : is_some (lookup (nat_eq t.src) es) ≡ true → is_some (lookup (nat_eq t.dst) es) ≡ true → has_both_ends (kept_graph names (map vertex_of es) links) t ≡ true
+  pub both_ends : is_some (lookup (nat_eq t.src) es) ≡ true → is_some (lookup (nat_eq t.dst) es) ≡ true →
+      has_both_ends (kept_graph names (map vertex_of es) links) t ≡ true
   both_ends e f =
       let a : has_vertex (kept_graph names (map vertex_of es) links) t.src ≡ true = has_vertex_of names es links t.src ∙ e in
       let b : has_vertex (kept_graph names (map vertex_of es) links) t.dst ≡ true = has_vertex_of names es links t.dst ∙ f in
       and_from _ _ a b
 
 -- graphs of the same vertices and triples are the same
-pub same_graph : (a c : List Vertex) (b d : List Triple) → a ≡ c → b ≡ d → ◌≡◌ {A = Graph} (record { vertices = a; triples = b }) (record { vertices = c; triples = d })
+pub same_graph : (a c : List Vertex) (b d : List Triple) → a ≡ c → b ≡ d →
+    ◌≡◌ {A = Graph} (record { vertices = a; triples = b }) (record { vertices = c; triples = d })
 same_graph a c b d p q = cc
 
 module _ (names names' : List (Option Name)) (vertices vertices' : List Vertex) (links links' : List Link) (k : Link) (text : List ℕ)
@@ -371,7 +396,8 @@ module _ (names names' : List (Option Name)) (vertices vertices' : List Vertex) 
       subst P (sym same) (named_left names names' vertices links links' k x.0 h tab x.1 p gone here others)
 
   -- a link less is the graph without its triple
-  pub removed_graph : without_triple (kept_graph names vertices links) (record { src = k.src; label = text; dst = k.dst }) ≡ kept_graph names' vertices' links'
+  pub removed_graph : without_triple (kept_graph names vertices links) (record { src = k.src; label = text; dst = k.dst })
+      ≡ kept_graph names' vertices' links'
   removed_graph = let x = known_slot names k.label text found in
       let P : Triple → Type 0 = λ t. without_triple (kept_graph names vertices links) t ≡ kept_graph names' vertices' links' in
       subst P (triple_is names k text found)
@@ -380,11 +406,13 @@ module _ (names names' : List (Option Name)) (vertices vertices' : List Vertex) 
 
 -- ---- a triple more
 
-uses_here : (names : List (Option Name)) (vertices : List Vertex) (links : List Link) (n : ℕ) (text : List ℕ) → IsNamed names vertices links →
+uses_here : (names : List (Option Name)) (vertices : List Vertex) (links : List Link) (n : ℕ) (text : List ℕ) →
+    IsNamed names vertices links →
     MatchOption (slot names n) (IsUnknown names text) (λ x. x.text ≡ text) → uses_of (slot names n) ≡ use_count vertices links n text
 uses_here names vertices links n text h was = by (slot names n) refl was
   where
-    by : (o : Option Name) → slot names n ≡ o → MatchOption o (IsUnknown names text) (λ x. x.text ≡ text) → uses_of (slot names n) ≡ use_count vertices links n text
+    by : (o : Option Name) → slot names n ≡ o → MatchOption o (IsUnknown names text) (λ x. x.text ≡ text) →
+        uses_of (slot names n) ≡ use_count vertices links n text
     by None e unknown = let a : uses_of (slot names n) ≡ 0 = ap uses_of e in let b = h.unused n e in let c = h.unborne text unknown in omega (arith, a, b, c)
     by (Some x) e same = let a : uses_of (slot names n) ≡ x.uses = ap uses_of e in let P : List ℕ → Type 0 = λ t. x.uses ≡ use_count vertices links n t in a ∙ subst P same (h.counted n x e)
 
@@ -392,15 +420,18 @@ module _ (names names' : List (Option Name)) (vertices : List Vertex) (links lin
     (h : IsNamed names vertices links) (tab : IsTable names) (was : MatchOption (slot names k.label) (IsUnknown names text) (λ x. x.text ≡ text))
     (here : slot names' k.label ≡ Some (record { text = text; uses = uses_of (slot names k.label) + 1 }))
     (others : (q : ℕ) → (q ≡ k.label → ⊥) → slot names' q ≡ slot names q) where
-  more_here : IsPermutation (k ∷ links) links' → count_by (λ (l : Link). l.label == k.label) links' ≡ 1 + count_by (λ (l : Link). l.label == k.label) links
+  more_here : IsPermutation (k ∷ links) links' → count_by (λ (l : Link). l.label == k.label) links'
+      ≡ 1 + count_by (λ (l : Link). l.label == k.label) links
   more_here p = let e = count_permutation (λ (l : Link). l.label == k.label) (k ∷ links) links' p ∙ count_cons (λ (l : Link). l.label == k.label) k links in rw (eq-eqb k.label k.label refl) at e
 
-  more_apart : IsPermutation (k ∷ links) links' → (q : ℕ) → (q ≡ k.label → ⊥) → count_by (λ (l : Link). l.label == q) links' ≡ count_by (λ (l : Link). l.label == q) links
+  more_apart : IsPermutation (k ∷ links) links' → (q : ℕ) → (q ≡ k.label → ⊥) →
+      count_by (λ (l : Link). l.label == q) links' ≡ count_by (λ (l : Link). l.label == q) links
   more_apart p q n =
       let e = count_permutation (λ (l : Link). l.label == q) (k ∷ links) links' p ∙ count_cons (λ (l : Link). l.label == q) k links in
       let f : count_by (λ (l : Link). l.label == q) links' ≡ 0 + count_by (λ (l : Link). l.label == q) links = rw (ne_eqb k.label q (λ s. n (sym s))) at e in omega arith
 
-  added_here : IsPermutation (k ∷ links) links' → (y : Name) → slot names' k.label ≡ Some y → y.uses ≡ use_count vertices links' k.label y.text
+  added_here : IsPermutation (k ∷ links) links' → (y : Name) → slot names' k.label ≡ Some y →
+      y.uses ≡ use_count vertices links' k.label y.text
   added_here p y e =
       let f : record { text = text; uses = uses_of (slot names k.label) + 1 } ≡ y = same_Some (record { text = text; uses = uses_of (slot names k.label) + 1 }) y (sym here ∙ e) in
       let P : Name → Type 0 = λ z. z.uses ≡ use_count vertices links' k.label z.text in
@@ -464,7 +495,8 @@ module _ (names names' : List (Option Name)) (vertices : List Vertex) (links lin
 
 -- ---- the same graph
 
-lowered_back : (o : Option Name) (text : List ℕ) → ((x : Name) → o ≡ Some x → (0 < x.uses) × (x.text ≡ text)) → lowered (Some (record { text = text; uses = uses_of o + 1 })) ≡ o
+lowered_back : (o : Option Name) (text : List ℕ) → ((x : Name) → o ≡ Some x → (0 < x.uses) × (x.text ≡ text)) →
+    lowered (Some (record { text = text; uses = uses_of o + 1 })) ≡ o
 lowered_back None text h = refl
 lowered_back (Some x) text h =
     let u = h x refl in
@@ -472,7 +504,8 @@ lowered_back (Some x) text h =
     rw big (ap Some (same_name text x.text (x.uses + 1 - 1) x.uses (sym u.1) (omega arith)))
 
 -- a name that was used once more and then once less stands as before
-pub back_same : (names names' names'' : List (Option Name)) (n : ℕ) (text : List ℕ) → IsTable names → MatchOption (slot names n) (IsUnknown names text) (λ x. x.text ≡ text) →
+pub back_same : (names names' names'' : List (Option Name)) (n : ℕ) (text : List ℕ) → IsTable names →
+    MatchOption (slot names n) (IsUnknown names text) (λ x. x.text ≡ text) →
     slot names' n ≡ Some (record { text = text; uses = uses_of (slot names n) + 1 }) → ((q : ℕ) → (q ≡ n → ⊥) → slot names' q ≡ slot names q) →
     slot names'' n ≡ lowered (slot names' n) → ((q : ℕ) → (q ≡ n → ⊥) → slot names'' q ≡ slot names' q) → (q : ℕ) → slot names'' q ≡ slot names q
 back_same names names' names'' n text tab was here others low rest q = ⊎_elim
@@ -481,7 +514,8 @@ back_same names names' names'' n text tab was here others low rest q = ⊎_elim
     (λ x f. (tab.used n x f, (let Q : Option Name → Type 0 = λ o. MatchOption o (IsUnknown names text) (λ z. z.text ≡ text) in subst Q f was))))))
     (λ d. rest q d ∙ others q d) (cases_eq q n)
 
-module _ (names names' : List (Option Name)) (vertices vertices' : List Vertex) (links links' : List Link) (slots : (q : ℕ) → slot names' q ≡ slot names q)
+module _ (names names' : List (Option Name)) (vertices vertices' : List Vertex) (links links' : List Link)
+    (slots : (q : ℕ) → slot names' q ≡ slot names q)
     (same : vertices' ≡ vertices) (p : IsPermutation links links') where
   -- names that stand for what they stood for keep belonging to the vertices and links
   pub same_named : IsNamed names vertices links → IsNamed names' vertices' links'
@@ -510,7 +544,8 @@ module _ (names names' : List (Option Name)) (vertices vertices' : List Vertex) 
 -- ---- an entry of a row has a name
 
 -- the label of an entry of an out row is a name
-pub entry_named : (names : List (Option Name)) (nodes : List (ℕ × Node)) (places : List (Link × Places)) → ArePlaced nodes places → IsNamed names (map vertex_of nodes) (keys_of places) →
+pub entry_named : (names : List (Option Name)) (nodes : List (ℕ × Node)) (places : List (Link × Places)) → ArePlaced nodes places →
+    IsNamed names (map vertex_of nodes) (keys_of places) →
     (v i : ℕ) (t : RowEntry) → slice_get (outs nodes v) i ≡ Some t → IsSome (slot names t.label)
 entry_named names nodes places h n v i t e =
     let k : Link = record { src = v; label = t.label; dst = t.other } in

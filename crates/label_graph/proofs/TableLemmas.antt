@@ -1,5 +1,6 @@
 -- The inside of a table of names.
-use Rattle.std.proofs.Common.{◌≡◌, ℕ, ◌<◌, Bool, true, false, cond, Option, Some, None, List, refl, sym, ap, ◌∙◌, subst, ⊎_elim, inl, inr, ◌⊎◌, length}
+use Rattle.std.proofs.Common.{◌≡◌, ℕ, ◌<◌, Bool, true, false, cond, Option, Some, None, List, refl, sym, ap, ◌∙◌, subst, ⊎_elim, inl, inr}
+use Rattle.std.proofs.Common.{◌⊎◌, length}
 use Rattle.std.specs.Prelude.{nat_eq, option_map, slice_set}
 use Rattle.std.specs.Cmp.Lexicographic.{pointwise, bytes_decides}
 use Rattle.std.proofs.lemmas.Bool.{cases_eq, cases_lt}
@@ -27,7 +28,8 @@ table_of numbers names h = record {
 }
 
 -- a name that keeps its text
-pub kept_inside : (numbers : List (List ℕ × ℕ)) (names names' : List (Option Name)) (n : ℕ) (x y : Name) → IsInside numbers names → slot names n ≡ Some x → slot names' n ≡ Some y → y.text ≡ x.text → 0 < y.uses →
+pub kept_inside : (numbers : List (List ℕ × ℕ)) (names names' : List (Option Name)) (n : ℕ) (x y : Name) → IsInside numbers names →
+    slot names n ≡ Some x → slot names' n ≡ Some y → y.text ≡ x.text → 0 < y.uses →
     ((q : ℕ) → (q ≡ n → ⊥) → slot names' q ≡ slot names q) → IsInside numbers names'
 kept_inside numbers names names' n x y h at at' same used others = record {
   inverse = same_inverse (text_at names) (text_at names') (number_of numbers) (number_of numbers)
@@ -68,7 +70,8 @@ apart_text x y n = by (pointwise nat_eq x y) refl
     by false e = e
 
 -- a name less in the slots and in the look-up
-pub removed_inside : (numbers numbers' : List (List ℕ × ℕ)) (names names' : List (Option Name)) (n : ℕ) (x : Name) → IsInside numbers names → slot names n ≡ Some x → slot names' n ≡ None →
+pub removed_inside : (numbers numbers' : List (List ℕ × ℕ)) (names names' : List (Option Name)) (n : ℕ) (x : Name) →
+    IsInside numbers names → slot names n ≡ Some x → slot names' n ≡ None →
     ((q : ℕ) → (q ≡ n → ⊥) → slot names' q ≡ slot names q) → ((t : List ℕ) → number_of numbers' t ≡ cond (pointwise nat_eq x.text t) None (number_of numbers t)) → IsInside numbers' names'
 removed_inside numbers numbers' names names' n x h at gone others set = record {
   inverse = removed cases_eq tell_text (text_at names) (text_at names') (number_of numbers) (number_of numbers') n x.text h.inverse (h.inverse.there n x.text (text_of names n x at))
@@ -82,7 +85,8 @@ removed_inside numbers numbers' names names' n x h at gone others set = record {
 }
 
 -- a name more in the slots and in the look-up
-pub added_inside : (numbers numbers' : List (List ℕ × ℕ)) (names names' : List (Option Name)) (n : ℕ) (x : Name) → IsInside numbers names → slot names n ≡ None → slot names' n ≡ Some x → 0 < x.uses →
+pub added_inside : (numbers numbers' : List (List ℕ × ℕ)) (names names' : List (Option Name)) (n : ℕ) (x : Name) → IsInside numbers names →
+    slot names n ≡ None → slot names' n ≡ Some x → 0 < x.uses →
     number_of numbers x.text ≡ None → ((q : ℕ) → (q ≡ n → ⊥) → slot names' q ≡ slot names q) → ((t : List ℕ) → number_of numbers' t ≡ cond (pointwise nat_eq x.text t) (Some n) (number_of numbers t)) → IsInside numbers' names'
 added_inside numbers numbers' names names' n x h free here positive unknown others set = record {
   inverse = added cases_eq tell_text (text_at names) (text_at names') (number_of numbers) (number_of numbers') n x.text h.inverse
@@ -97,7 +101,8 @@ added_inside numbers numbers' names names' n x h free here positive unknown othe
 }
 
 -- the number that is found for a text stands for a name of that text
-pub found_slot : (numbers : List (List ℕ × ℕ)) (names : List (Option Name)) (text : List ℕ) (n : ℕ) → IsInside numbers names → number_of numbers text ≡ Some n → (x : Name) × (slot names n ≡ Some x) × (x.text ≡ text)
+pub found_slot : (numbers : List (List ℕ × ℕ)) (names : List (Option Name)) (text : List ℕ) (n : ℕ) → IsInside numbers names →
+    number_of numbers text ≡ Some n → (x : Name) × (slot names n ≡ Some x) × (x.text ≡ text)
 found_slot numbers names text n h e = option_map_some (λ (y : Name). y.text) (slot names n) text (h.inverse.back text n e)
 
 -- names of the same text and uses are the same

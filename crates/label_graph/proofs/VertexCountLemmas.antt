@@ -1,5 +1,6 @@
 -- How many vertices and names there are, with those of a new vertex.
-use Rattle.std.proofs.Common.{◌≡◌, ℕ, ◌+◌, Bool, true, false, ◌||◌, not, Option, Some, List, [], ◌∷◌, ◌++◌, map, length, refl, sym, ap, ◌∙◌, subst, ⊎_elim, inl, inr, arith}
+use Rattle.std.proofs.Common.{◌≡◌, ℕ, ◌+◌, Bool, true, false, ◌||◌, not, Option, Some, List, [], ◌∷◌, ◌++◌, map, length, refl, sym, ap, ◌∙◌}
+use Rattle.std.proofs.Common.{subst, ⊎_elim, inl, inr, arith}
 use Rattle.std.specs.Prelude.{is_some, nat_eq, nat_le, nat_lt, count_by}
 use Rattle.std.specs.List.{filter, AllByRecursion, IsDistinct}
 use Rattle.std.specs.Map.{keys_of}
@@ -38,11 +39,13 @@ use Rattle.label_graph.proofs.StoreLemmas.{known_slot, text_of_slot}
 
 -- ---- vertices
 
-ids_put : (v : Vertex) (vs : List Vertex) → map (λ (w : Vertex). w.id) (put vertex_cmp v vs) ≡ put nat_cmp v.id (map (λ (w : Vertex). w.id) vs)
+ids_put : (v : Vertex) (vs : List Vertex) → map (λ (w : Vertex). w.id) (put vertex_cmp v vs)
+    ≡ put nat_cmp v.id (map (λ (w : Vertex). w.id) vs)
 ids_put v [] = refl
 ids_put v (w ∷ ws) = by (nat_cmp v.id w.id) refl (ids_put v ws)
   where
-    by : (r : Ordering) → nat_cmp v.id w.id ≡ r → map (λ (w : Vertex). w.id) (put vertex_cmp v ws) ≡ put nat_cmp v.id (map (λ (w : Vertex). w.id) ws) →
+    by : (r : Ordering) → nat_cmp v.id w.id ≡ r → map (λ (w : Vertex). w.id) (put vertex_cmp v ws)
+        ≡ put nat_cmp v.id (map (λ (w : Vertex). w.id) ws) →
         map (λ (w : Vertex). w.id) (put vertex_cmp v (w ∷ ws)) ≡ put nat_cmp v.id (map (λ (w : Vertex). w.id) (w ∷ ws))
     by Less e ih = rw e refl
     by Equal e ih = rw e refl
@@ -79,7 +82,8 @@ apart_joined : (xs ys : List (List ℕ)) → AreOnce xs → AreOnce ys → ((z :
 apart_joined [] ys a b n = b
 apart_joined (x ∷ xs) ys a b n = ((λ i. ⊎_elim a.0 (λ j. n x (inl refl) j) (append_in xs ys x i)), apart_joined xs ys a.1 b (λ z i j. n z (inr i) j))
 
-module _ (names : List (Option Name)) (vertices : List Vertex) (links : List Link) (h : IsNamed names vertices links) (tab : IsTable names) (set : List (List ℕ)) (up : is_ascending text_cmp set ≡ true) where
+module _ (names : List (Option Name)) (vertices : List Vertex) (links : List Link) (h : IsNamed names vertices links) (tab : IsTable names)
+    (set : List (List ℕ)) (up : is_ascending text_cmp set ≡ true) where
   listed_known : (t : List ℕ) → is_known names t ≡ true → In (text_list names) t
   listed_known t e =
       let n = known_at names t e in
@@ -90,7 +94,8 @@ module _ (names : List (Option Name)) (vertices : List Vertex) (links : List Lin
   known_listed : (t : List ℕ) → In (text_list names) t → is_known names t ≡ true
   known_listed t i = let r = texts_in names t i in known_some names r.0 t (text_of_slot names r.0 r.1 r.2 ∙ ap Some r.3)
 
-  in_use : (z : List ℕ) → In (names_of (kept_graph names vertices links) ++ set) z → In (filter (λ (t : List ℕ). not (is_known names t)) set ++ text_list names) z
+  in_use : (z : List ℕ) → In (names_of (kept_graph names vertices links) ++ set) z →
+      In (filter (λ (t : List ℕ). not (is_known names t)) set ++ text_list names) z
   in_use z i = ⊎_elim
       (λ j. in_append_right (filter (λ (t : List ℕ). not (is_known names t)) set) (text_list names) z (names_known names vertices links h tab z j))
       (λ j. by (is_known names z) refl j)
@@ -100,13 +105,15 @@ module _ (names : List (Option Name)) (vertices : List Vertex) (links : List Lin
       by true e j = in_append_right (filter (λ (t : List ℕ). not (is_known names t)) set) (text_list names) z (listed_known z e)
       by false e j = in_append_left (filter (λ (t : List ℕ). not (is_known names t)) set) (text_list names) z (in_filter (λ (t : List ℕ). not (is_known names t)) set z j (ap not e))
 
-  use_in : (z : List ℕ) → In (filter (λ (t : List ℕ). not (is_known names t)) set ++ text_list names) z → In (names_of (kept_graph names vertices links) ++ set) z
+  use_in : (z : List ℕ) → In (filter (λ (t : List ℕ). not (is_known names t)) set ++ text_list names) z →
+      In (names_of (kept_graph names vertices links) ++ set) z
   use_in z i = ⊎_elim
       (λ j. in_append_right (names_of (kept_graph names vertices links)) set z (filter_in (λ (t : List ℕ). not (is_known names t)) set z j).0)
       (λ j. in_append_left (names_of (kept_graph names vertices links)) set z (known_named names vertices links h tab z j))
       (append_in (filter (λ (t : List ℕ). not (is_known names t)) set) (text_list names) z i)
 
-  label_set_is : label_set (names_of (kept_graph names vertices links) ++ set) ≡ sorted text_cmp (filter (λ (t : List ℕ). not (is_known names t)) set ++ text_list names)
+  label_set_is : label_set (names_of (kept_graph names vertices links) ++ set)
+      ≡ sorted text_cmp (filter (λ (t : List ℕ). not (is_known names t)) set ++ text_list names)
   label_set_is = ascending_same text_cmp nat_list_cmp_total (label_set (names_of (kept_graph names vertices links) ++ set)) (sorted text_cmp (filter (λ (t : List ℕ). not (is_known names t)) set ++ text_list names))
       (put_all_ascending [] (names_of (kept_graph names vertices links) ++ set) refl)
       (sorted_ascending text_cmp nat_list_cmp_total (filter (λ (t : List ℕ). not (is_known names t)) set ++ text_list names))
@@ -122,7 +129,8 @@ module _ (names : List (Option Name)) (vertices : List Vertex) (links : List Lin
       (λ z i j. true≢false (sym (filter_in (λ (t : List ℕ). not (is_known names t)) set z i).1 ∙ ap not (known_listed z j)))
 
   -- the names in use, and those of the set that are not
-  pub set_counted : name_count (kept_graph names vertices links) set ≡ count_by is_some names + count_by (λ (t : List ℕ). not (is_known names t)) set
+  pub set_counted : name_count (kept_graph names vertices links) set
+      ≡ count_by is_some names + count_by (λ (t : List ℕ). not (is_known names t)) set
   set_counted =
       let e = ap (λ (l : List (List ℕ)). length l) label_set_is in
       let l = length_sorted text_cmp nat_list_cmp_total exact_bytes (filter (λ (t : List ℕ). not (is_known names t)) set ++ text_list names) apart_all in
@@ -132,7 +140,8 @@ module _ (names : List (Option Name)) (vertices : List Vertex) (links : List Lin
       e ∙ (l ∙ omega (arith, a, f, c))
 
 -- the test of the store is that of the graph
-pub room_is : (limits : Limits) (names : List (Option Name)) (es : List (ℕ × Node)) (links : List Link) (set : List (List ℕ)) (count name more : ℕ) → IsNamed names (map vertex_of es) links → IsTable names →
+pub room_is : (limits : Limits) (names : List (Option Name)) (es : List (ℕ × Node)) (links : List Link) (set : List (List ℕ))
+    (count name more : ℕ) → IsNamed names (map vertex_of es) links → IsTable names →
     is_ascending text_cmp set ≡ true → IsDistinct nat_eq (keys_of es) → count ≡ length es → name ≡ count_by is_some names → more ≡ count_by (λ (t : List ℕ). not (is_known names t)) set →
     nat_le limits.vertices (length (sorted vertex_cmp (map vertex_of es))) || nat_lt limits.labels (name_count (kept_graph names (map vertex_of es) links) set) ≡ nat_le limits.vertices count || nat_lt limits.labels (name + more)
 room_is limits names es links set count name more h tab up d c n m =

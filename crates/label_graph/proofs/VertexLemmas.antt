@@ -1,5 +1,6 @@
 -- A vertex more or less.
-use Rattle.std.proofs.Common.{◌≡◌, ℕ, ◌+◌, ◌-◌, Bool, true, false, not, cond, Option, Some, None, List, [], ◌∷◌, map, refl, sym, ap, ◌∙◌, subst, ⊎_elim, inl, inr, arith}
+use Rattle.std.proofs.Common.{◌≡◌, ℕ, ◌+◌, ◌-◌, Bool, true, false, not, cond, Option, Some, None, List, [], ◌∷◌, map, refl, sym, ap, ◌∙◌}
+use Rattle.std.proofs.Common.{subst, ⊎_elim, inl, inr, arith}
 use Rattle.std.specs.Prelude.{◌==◌, IsPermutation, option_map, count_by, unwrap_or}
 use Rattle.std.specs.List.{filter, list_any}
 use Rattle.std.proofs.lemmas.Bool.{eq-eqb, true≢false}
@@ -26,7 +27,8 @@ use Rattle.label_graph.proofs.StoreLemmas.{vertex_total, count_cons, count_permu
 -- ---- vertices in another order
 
 -- names, vertices and links belong together with the vertices in another order
-pub named_permuted : (names : List (Option Name)) (vertices vertices' : List Vertex) (links : List Link) → IsPermutation vertices vertices' → IsNamed names vertices links → IsNamed names vertices' links
+pub named_permuted : (names : List (Option Name)) (vertices vertices' : List Vertex) (links : List Link) →
+    IsPermutation vertices vertices' → IsNamed names vertices links → IsNamed names vertices' links
 named_permuted names vertices vertices' links p h = record {
   counted = λ n x e. h.counted n x e ∙ ap (λ (m : ℕ). count_by (λ (k : Link). k.label == n) links + m) (sym (count_permutation (λ (v : Vertex). is_in text_cmp x.text v.labels) vertices vertices' p));
   unused = h.unused;
@@ -34,7 +36,8 @@ named_permuted names vertices vertices' links p h = record {
   one_each = λ v w i j e. h.one_each v w (in_permutation vertices vertices' p v i) (in_permutation vertices vertices' p w j) e;
 }
 
-exact_vertices : (names : List (Option Name)) (vertices : List Vertex) (links : List Link) → IsNamed names vertices links → IsExactOn vertex_cmp vertex_total vertices
+exact_vertices : (names : List (Option Name)) (vertices : List Vertex) (links : List Link) → IsNamed names vertices links →
+    IsExactOn vertex_cmp vertex_total vertices
 exact_vertices names vertices links h a b i j q = h.one_each a b i j (exact_unsigned a.id b.id q)
 
 -- how many vertices bear a text, with one more
@@ -43,7 +46,8 @@ borne : (v : Vertex) (vertices : List Vertex) (t : List ℕ) (b : Bool) → is_i
 borne v vertices t b e = count_cons (λ (w : Vertex). is_in text_cmp t w.labels) v vertices ∙ ap (λ (c : Bool). cond c 1 0 + count_by (λ (w : Vertex). is_in text_cmp t w.labels) vertices) e
 
 -- triples whose labels keep their texts
-triples_same : (names names' : List (Option Name)) (ls : List Link) → ((l : Link) → In ls l → text_at names' l.label ≡ text_at names l.label) → map (triple_of names') ls ≡ map (triple_of names) ls
+triples_same : (names names' : List (Option Name)) (ls : List Link) →
+    ((l : Link) → In ls l → text_at names' l.label ≡ text_at names l.label) → map (triple_of names') ls ≡ map (triple_of names) ls
 triples_same names names' [] f = refl
 triples_same names names' (l ∷ ls) f =
     let t : triple_of names' l ≡ triple_of names l = ap (λ (o : Option (List ℕ)). record { src = l.src; label = unwrap_or o []; dst = l.dst }) (f l (inl refl)) in
@@ -53,10 +57,12 @@ triples_same names names' (l ∷ ls) f =
 
 module _ (names names' : List (Option Name)) (vertices vertices' : List Vertex) (links : List Link) (v : Vertex)
     (h : IsNamed names vertices links) (r : IsRaised v.labels names names') (new : list_any (λ (w : Vertex). w.id == v.id) vertices ≡ false) (p : IsPermutation (v ∷ vertices) vertices') where
-  counted_known : (n : ℕ) (x : Name) → slot names n ≡ Some x → (raised_in v.labels x).uses ≡ use_count (v ∷ vertices) links n (raised_in v.labels x).text
+  counted_known : (n : ℕ) (x : Name) → slot names n ≡ Some x →
+      (raised_in v.labels x).uses ≡ use_count (v ∷ vertices) links n (raised_in v.labels x).text
   counted_known n x e = by (is_in text_cmp x.text v.labels) refl
     where
-      by : (b : Bool) → is_in text_cmp x.text v.labels ≡ b → (raised_in v.labels x).uses ≡ use_count (v ∷ vertices) links n (raised_in v.labels x).text
+      by : (b : Bool) → is_in text_cmp x.text v.labels ≡ b →
+          (raised_in v.labels x).uses ≡ use_count (v ∷ vertices) links n (raised_in v.labels x).text
       by true f =
           let P : Name → Type 0 = λ z. z.uses ≡ use_count (v ∷ vertices) links n z.text in
           let c = h.counted n x e in
@@ -170,7 +176,8 @@ module _ (names names' : List (Option Name)) (vertices : List Vertex) (links : L
               (lowered_cases x)
           test false f = absurd (none-some x (sym g ∙ slot_apart n x e f))
 
-  borne_known : (t : List ℕ) (n : ℕ) (x : Name) → IsUnknown names' t → slot names n ≡ Some x → x.text ≡ t → is_in text_cmp x.text v.labels ≡ true → count_by (λ (w : Vertex). is_in text_cmp t w.labels) vertices ≡ 0
+  borne_known : (t : List ℕ) (n : ℕ) (x : Name) → IsUnknown names' t → slot names n ≡ Some x → x.text ≡ t →
+      is_in text_cmp x.text v.labels ≡ true → count_by (λ (w : Vertex). is_in text_cmp t w.labels) vertices ≡ 0
   borne_known t n x unknown e same f = ⊎_elim
       (λ s.
       let P : List ℕ → Type 0 = λ z. count_by (λ (w : Vertex). is_in text_cmp z w.labels) vertices ≡ 0 in
@@ -234,7 +241,8 @@ module _ (names names' : List (Option Name)) (vertices : List Vertex) (links : L
           test false f = ap (option_map (λ (y : Name). y.text)) (slot_apart l.label x.0 x.1 f ∙ sym x.1)
 
 -- the vertices of a store without the one with this id
-vertices_without : (names : List (Option Name)) (vertices vertices' : List Vertex) (links : List Link) (v : Vertex) → IsNamed names vertices links → IsPermutation vertices (v ∷ vertices') →
+vertices_without : (names : List (Option Name)) (vertices vertices' : List Vertex) (links : List Link) (v : Vertex) →
+    IsNamed names vertices links → IsPermutation vertices (v ∷ vertices') →
     list_any (λ (w : Vertex). w.id == v.id) vertices' ≡ false → filter (λ (w : Vertex). not (w.id == v.id)) (sorted vertex_cmp vertices) ≡ sorted vertex_cmp vertices'
 vertices_without names vertices vertices' links v h p gone =
     let exact : IsExactOn vertex_cmp vertex_total vertices = exact_vertices names vertices links h in

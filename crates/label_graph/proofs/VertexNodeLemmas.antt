@@ -1,6 +1,8 @@
 -- The nodes of a store after a vertex more or less, and what a vertex's rows tell.
-use Rattle.std.proofs.Common.{◌≡◌, ℕ, zero, suc, ◌-◌, ◌<◌, Bool, true, false, ◌||◌, cond, Option, Some, None, List, [], ◌∷◌, ◌++◌, map, length, get_or, take, refl, sym, ap, ◌∙◌, subst, arith}
-use Rattle.std.specs.Prelude.{◌==◌, IsPermutation, option_map, is_some, nat_eq, nat_lt, slice_get, slice_set, position, swap_remove, unwrap_or}
+use Rattle.std.proofs.Common.{◌≡◌, ℕ, zero, suc, ◌-◌, ◌<◌, Bool, true, false, ◌||◌, cond, Option, Some, None, List, [], ◌∷◌, ◌++◌, map}
+use Rattle.std.proofs.Common.{length, get_or, take, refl, sym, ap, ◌∙◌, subst, arith}
+use Rattle.std.specs.Prelude.{◌==◌, IsPermutation, option_map, is_some, nat_eq, nat_lt, slice_get, slice_set, position, swap_remove}
+use Rattle.std.specs.Prelude.{unwrap_or}
 use Rattle.std.specs.List.{list_any}
 use Rattle.std.specs.Cmp.{unsigned_Decides}
 use Rattle.std.specs.Map.{lookup, keys_of, values_of}
@@ -36,17 +38,21 @@ use Rattle.graph_traits.proofs.NumberLemmas.{triple_exact}
 swap_default : {X : Type 0} (xs : List X) (i : ℕ) (d e : X) → i < length xs → swap_remove xs i d ≡ swap_remove xs i e
 swap_default {X} xs i d e lt = ap (λ (x : X). take (length xs - 1) (slice_set xs i x)) (get_or_default xs (length xs - 1) d e (omega (arith, lt)))
 
-entry_at : (es : List (ℕ × Node)) (i : ℕ) (node : Node) → slice_get (values_of es) i ≡ Some node → (k : ℕ) × (slice_get es i ≡ Some (k, node)) × (slice_get (keys_of es) i ≡ Some k)
+entry_at : (es : List (ℕ × Node)) (i : ℕ) (node : Node) → slice_get (values_of es) i ≡ Some node →
+    (k : ℕ) × (slice_get es i ≡ Some (k, node)) × (slice_get (keys_of es) i ≡ Some k)
 entry_at [] i node e = absurd (none-some node e)
 entry_at (x ∷ xs) zero node e = (x.0, ap Some (ap (λ (n : Node). (x.0, n)) (same_Some x.1 node e)), refl)
 entry_at (x ∷ xs) (suc i) node e = entry_at xs i node e
 
 -- a node that is taken away leaves the other nodes
-pub taken : (id : ℕ) (es : List (ℕ × Node)) (node : Node) → lookup (nat_eq id) es ≡ Some node → IsPermutation es ((id, node) ∷ swap_remove_entry (nat_eq id) es)
+pub taken : (id : ℕ) (es : List (ℕ × Node)) (node : Node) → lookup (nat_eq id) es ≡ Some node →
+    IsPermutation es ((id, node) ∷ swap_remove_entry (nat_eq id) es)
 taken id [] node e = absurd (none-some node e)
 taken id (x ∷ xs) node e = by (position (nat_eq id) (keys_of (x ∷ xs))) refl
   where
-    by : (o : Option ℕ) → position (nat_eq id) (keys_of (x ∷ xs)) ≡ o → IsPermutation (x ∷ xs) ((id, node) ∷ option_map_or (λ i. swap_remove (x ∷ xs) i x) (position (nat_eq id) (keys_of (x ∷ xs))) (x ∷ xs))
+    by : (o : Option ℕ) → position (nat_eq id) (keys_of (x ∷ xs)) ≡ o →
+        IsPermutation (x ∷ xs) ((id, node) ∷ option_map_or (λ i. swap_remove (x ∷ xs) i x) (position (nat_eq id) (keys_of (x ∷ xs)))
+        (x ∷ xs))
     by None p = absurd (none-some node (sym (Missing-position (nat_eq id) (x ∷ xs) p).value ∙ e))
     by (Some i) p =
         let f = Found-position (nat_eq id) (x ∷ xs) i p in
@@ -66,7 +72,8 @@ module _ (id : ℕ) (es fs : List (ℕ × Node)) (set : (q : ℕ) → lookup (na
   none_left = any_vertex fs id ∙ (sym (is_some-lookup (nat_eq id) fs) ∙ (ap is_some (set id) ∙ ap (λ (b : Bool). is_some (cond b None (lookup (nat_eq id) es))) (eq-eqb id id refl)))
 
   -- rows of a vertex that had none
-  rows_left : (rows : Option Node → List RowEntry) → rows None ≡ [] → rows (lookup (nat_eq id) es) ≡ [] → (q : ℕ) → rows (lookup (nat_eq q) fs) ≡ rows (lookup (nat_eq q) es)
+  rows_left : (rows : Option Node → List RowEntry) → rows None ≡ [] → rows (lookup (nat_eq id) es) ≡ [] → (q : ℕ) →
+      rows (lookup (nat_eq q) fs) ≡ rows (lookup (nat_eq q) es)
   rows_left rows none empty q = by (nat_eq id q) refl
     where
       by : (b : Bool) → nat_eq id q ≡ b → rows (lookup (nat_eq q) fs) ≡ rows (lookup (nat_eq q) es)
@@ -82,14 +89,17 @@ module _ (id : ℕ) (es fs : List (ℕ × Node)) (set : (q : ℕ) → lookup (na
 -- ---- a node put in
 
 -- the vertices of the nodes with one put behind them
-pub pushed_first : (es : List (ℕ × Node)) (x : ℕ × Node) (fs : List (ℕ × Node)) → fs ≡ es ++ x ∷ [] → IsPermutation (map vertex_of (x ∷ es)) (map vertex_of fs)
+pub pushed_first : (es : List (ℕ × Node)) (x : ℕ × Node) (fs : List (ℕ × Node)) → fs ≡ es ++ x ∷ [] →
+    IsPermutation (map vertex_of (x ∷ es)) (map vertex_of fs)
 pushed_first es x fs e =
     let P : List (ℕ × Node) → Type 0 = λ l. IsPermutation (map vertex_of (x ∷ es)) (map vertex_of l) in
     subst P (sym e) (IsPermutation-map vertex_of (x ∷ es) (es ++ x ∷ []) (IsPermutation-sym (es ++ x ∷ []) (x ∷ es) (IsPermutation-to_front es x)))
 
-module _ (id : ℕ) (node : Node) (es fs : List (ℕ × Node)) (set : (q : ℕ) → lookup (nat_eq q) fs ≡ cond (nat_eq id q) (Some node) (lookup (nat_eq q) es)) (free : lookup (nat_eq id) es ≡ None) where
+module _ (id : ℕ) (node : Node) (es fs : List (ℕ × Node)) (set : (q : ℕ) →
+    lookup (nat_eq q) fs ≡ cond (nat_eq id q) (Some node) (lookup (nat_eq q) es)) (free : lookup (nat_eq id) es ≡ None) where
   -- rows of a vertex that has none
-  rows_more : (rows : Option Node → List RowEntry) → rows None ≡ [] → rows (Some node) ≡ [] → (q : ℕ) → rows (lookup (nat_eq q) fs) ≡ rows (lookup (nat_eq q) es)
+  rows_more : (rows : Option Node → List RowEntry) → rows None ≡ [] → rows (Some node) ≡ [] → (q : ℕ) →
+      rows (lookup (nat_eq q) fs) ≡ rows (lookup (nat_eq q) es)
   rows_more rows none empty q = by (nat_eq id q) refl
     where
       by : (b : Bool) → nat_eq id q ≡ b → rows (lookup (nat_eq q) fs) ≡ rows (lookup (nat_eq q) es)
@@ -117,7 +127,8 @@ or_false true b e = absurd (true≢false e)
 or_false false b e = (refl, e)
 
 -- rows without entries are empty
-pub empty_rows : (outs_row ins_row : List RowEntry) → nat_lt 0 (length outs_row) || nat_lt 0 (length ins_row) ≡ false → (outs_row ≡ []) × (ins_row ≡ [])
+pub empty_rows : (outs_row ins_row : List RowEntry) → nat_lt 0 (length outs_row) || nat_lt 0 (length ins_row) ≡ false →
+    (outs_row ≡ []) × (ins_row ≡ [])
 empty_rows outs_row ins_row e = let p = or_false (nat_lt 0 (length outs_row)) (nat_lt 0 (length ins_row)) e in (no_entries outs_row p.0, no_entries ins_row p.1)
 
 abbrev is_end : ℕ → Link → Bool
@@ -152,7 +163,8 @@ module _ (nodes : List (ℕ × Node)) (places : List (Link × Places)) (h : AreP
   busy : nat_lt 0 (length (outs nodes id)) || nat_lt 0 (length (ins nodes id)) ≡ true → list_any (is_end id) (keys_of places) ≡ true
   busy e = by (nat_lt 0 (length (outs nodes id))) refl e
     where
-      by : (b : Bool) → nat_lt 0 (length (outs nodes id)) ≡ b → b || nat_lt 0 (length (ins nodes id)) ≡ true → list_any (is_end id) (keys_of places) ≡ true
+      by : (b : Bool) → nat_lt 0 (length (outs nodes id)) ≡ b → b || nat_lt 0 (length (ins nodes id)) ≡ true →
+          list_any (is_end id) (keys_of places) ≡ true
       by true f g =
           let t = first_entry (outs nodes id) f in
           any_in (is_end id) (keys_of places) (out_link id t.0) (out_among t.0 t.1) (true_left (id == id) (t.0.other == id) (eq-eqb id id refl))
@@ -192,17 +204,21 @@ module _ (nodes : List (ℕ × Node)) (places : List (Link × Places)) (h : AreP
       by true e = let k = in_any (is_end id) (keys_of places) e in absurd (clash k.0 k.1 (k.0.src == id) refl k.2)
       by false e = e
 
-  links_end : (names : List (Option Name)) (ls : List Link) → list_any (λ (t : Triple). t.src == id || t.dst == id) (map (triple_of names) ls) ≡ list_any (is_end id) ls
+  links_end : (names : List (Option Name)) (ls : List Link) →
+      list_any (λ (t : Triple). t.src == id || t.dst == id) (map (triple_of names) ls) ≡ list_any (is_end id) ls
   links_end names [] = refl
   links_end names (l ∷ ls) = ap (λ (b : Bool). is_end id l || b) (links_end names ls)
 
   -- whether a triple of the graph ends at the vertex
-  pub incident_is : (names : List (Option Name)) (vertices : List Vertex) → has_incident_triple (kept_graph names vertices (keys_of places)) id ≡ nat_lt 0 (length (outs nodes id)) || nat_lt 0 (length (ins nodes id))
+  pub incident_is : (names : List (Option Name)) (vertices : List Vertex) →
+      has_incident_triple (kept_graph names vertices (keys_of places)) id
+      ≡ nat_lt 0 (length (outs nodes id)) || nat_lt 0 (length (ins nodes id))
   incident_is names vertices =
       any_sorted triple_cmp triple_total (λ (t : Triple). t.src == id || t.dst == id)
       (λ x y e. ap (λ (t : Triple). t.src == id || t.dst == id) (triple_exact x y e)) (map (triple_of names) (keys_of places))
       ∙ (links_end names (keys_of places) ∙ by (nat_lt 0 (length (outs nodes id)) || nat_lt 0 (length (ins nodes id))) refl)
     where
-      by : (b : Bool) → nat_lt 0 (length (outs nodes id)) || nat_lt 0 (length (ins nodes id)) ≡ b → list_any (is_end id) (keys_of places) ≡ nat_lt 0 (length (outs nodes id)) || nat_lt 0 (length (ins nodes id))
+      by : (b : Bool) → nat_lt 0 (length (outs nodes id)) || nat_lt 0 (length (ins nodes id)) ≡ b →
+          list_any (is_end id) (keys_of places) ≡ nat_lt 0 (length (outs nodes id)) || nat_lt 0 (length (ins nodes id))
       by true e = busy e ∙ sym e
       by false e = let r = empty_rows (outs nodes id) (ins nodes id) e in idle r.0 r.1 ∙ sym e

@@ -1,12 +1,14 @@
 -- A store after a vertex more or less.
-use Rattle.std.proofs.Common.{◌≡◌, ℕ, ◌<◌, ◌^◌, true, false, ◌||◌, cond, Option, Some, None, List, [], ◌∷◌, ◌++◌, map, length, Ok, Err, Result, refl, sym, ap, ◌∙◌, subst}
+use Rattle.std.proofs.Common.{◌≡◌, ℕ, ◌<◌, ◌^◌, true, false, ◌||◌, cond, Option, Some, None, List, [], ◌∷◌, ◌++◌, map, length, Ok, Err}
+use Rattle.std.proofs.Common.{Result, refl, sym, ap, ◌∙◌, subst}
 use Rattle.std.specs.Prelude.{◌==◌, IsPermutation, is_some, nat_eq, nat_le, nat_lt}
 use Rattle.std.specs.List.{list_any}
 use Rattle.std.specs.Map.{lookup, keys_of}
 use Rattle.std.proofs.lemmas.List.Sorted.{IsPermutation-map, IsPermutation-refl}
 use Rattle.std.proofs.lemmas.Map.Made.{is_some-lookup}
 use Rattle.indexmap.specs.IndexMap.{swap_remove_entry}
-use Rattle.flux_model.specs.Graph.{Graph, IsVertex, add_vertex, drop_vertex, has_vertex, has_incident_triple, name_count, with_vertex, without_vertex}
+use Rattle.flux_model.specs.Graph.{Graph, IsVertex, add_vertex, drop_vertex, has_vertex, has_incident_triple, name_count, with_vertex}
+use Rattle.flux_model.specs.Graph.{without_vertex}
 use Rattle.flux_model.specs.Labels.{IsLabelSet}
 use Rattle.flux_model.specs.declared.code.Code.{Code}
 use Rattle.flux_model.specs.declared.code.Code.TheVariants as code
@@ -35,11 +37,15 @@ pub add_vertex_stands : (limits : Limits) (g : Graph) (v : Vertex) → has_verte
 add_vertex_stands limits g v e = rw e refl
 
 -- then one for which a limit leaves no room
-pub add_vertex_full : (limits : Limits) (g : Graph) (v : Vertex) → has_vertex g v.id ≡ false → nat_le limits.vertices (length g.vertices) || nat_lt limits.labels (name_count g v.labels) ≡ true → add_vertex limits g v ≡ Err code.Full
+pub add_vertex_full : (limits : Limits) (g : Graph) (v : Vertex) → has_vertex g v.id ≡ false →
+    nat_le limits.vertices (length g.vertices) || nat_lt limits.labels (name_count g v.labels) ≡ true →
+    add_vertex limits g v ≡ Err code.Full
 add_vertex_full limits g v e f = rw (e, f) refl
 
 -- any other is put in
-pub add_vertex_done : (limits : Limits) (g : Graph) (v : Vertex) → has_vertex g v.id ≡ false → nat_le limits.vertices (length g.vertices) || nat_lt limits.labels (name_count g v.labels) ≡ false → add_vertex limits g v ≡ Ok (with_vertex g v)
+pub add_vertex_done : (limits : Limits) (g : Graph) (v : Vertex) → has_vertex g v.id ≡ false →
+    nat_le limits.vertices (length g.vertices) || nat_lt limits.labels (name_count g v.labels) ≡ false →
+    add_vertex limits g v ≡ Ok (with_vertex g v)
 add_vertex_done limits g v e f = rw (e, f) refl
 
 -- an id that is no vertex is refused first
@@ -51,7 +57,8 @@ pub drop_vertex_busy : (g : Graph) (id : ℕ) → has_vertex g id ≡ true → h
 drop_vertex_busy g id e f = rw (e, f) refl
 
 -- any other is taken away
-pub drop_vertex_done : (g : Graph) (id : ℕ) → has_vertex g id ≡ true → has_incident_triple g id ≡ false → drop_vertex g id ≡ Ok (without_vertex g id)
+pub drop_vertex_done : (g : Graph) (id : ℕ) → has_vertex g id ≡ true → has_incident_triple g id ≡ false →
+    drop_vertex g id ≡ Ok (without_vertex g id)
 drop_vertex_done g id e f = rw (e, f) refl
 
 -- ---- a vertex less
@@ -74,19 +81,22 @@ module _ (names names' : List (Option Name)) (es fs : List (ℕ × Node)) (place
   dropped_named = removed_vertex_named names names' (map vertex_of es) (map vertex_of fs) (keys_of places) (vertex_of (id, node)) named low without (none_left id es fs set)
 
   -- what is kept is the graph without the vertex
-  pub dropped : drop_vertex (kept_graph names (map vertex_of es) (keys_of places)) id ≡ Ok (kept_graph names' (map vertex_of fs) (keys_of places))
+  pub dropped : drop_vertex (kept_graph names (map vertex_of es) (keys_of places)) id
+      ≡ Ok (kept_graph names' (map vertex_of fs) (keys_of places))
   dropped =
       let okay : Graph → Result Graph Code = λ g. Ok g in
       drop_vertex_done (kept_graph names (map vertex_of es) (keys_of places)) id (has_vertex_of names es (keys_of places) id ∙ ap is_some found) (incident_is es places placed id names (map vertex_of es) ∙ idle)
       ∙ ap okay (graph_without names names' (map vertex_of es) (map vertex_of fs) (keys_of places) (vertex_of (id, node)) named low without (none_left id es fs set))
 
   -- which is within the limits
-  pub dropped_held : (limits : Limits) → IsWithinLimits limits (kept_graph names (map vertex_of es) (keys_of places)) → IsWithinLimits limits (kept_graph names' (map vertex_of fs) (keys_of places))
+  pub dropped_held : (limits : Limits) → IsWithinLimits limits (kept_graph names (map vertex_of es) (keys_of places)) →
+      IsWithinLimits limits (kept_graph names' (map vertex_of fs) (keys_of places))
   dropped_held limits held = held_after limits (kept_graph names (map vertex_of es) (keys_of places)) (kept_graph names' (map vertex_of fs) (keys_of places)) (DropVertex id) held tt dropped
 
 -- ---- a vertex more
 
-module _ (limits : Limits) (names names' : List (Option Name)) (es mid fs : List (ℕ × Node)) (places : List (Link × Places)) (id : ℕ) (node : Node) (labels : List (List ℕ))
+module _ (limits : Limits) (names names' : List (Option Name)) (es mid fs : List (ℕ × Node)) (places : List (Link × Places)) (id : ℕ)
+    (node : Node) (labels : List (List ℕ))
     (placed : ArePlaced es places) (named : IsNamed names (map vertex_of es) (keys_of places)) (absent : is_some (lookup (nat_eq id) es) ≡ false)
     (room : nat_le limits.vertices (length (kept_graph names (map vertex_of es) (keys_of places)).vertices) || nat_lt limits.labels (name_count (kept_graph names (map vertex_of es) (keys_of places)) labels) ≡ false)
     (bears : node.labels ≡ labels) (no_outs : node.outs.items ≡ []) (no_ins : node.ins.items ≡ []) (same : mid ≡ es) (entries : fs ≡ mid ++ (id, node) ∷ [])
@@ -111,21 +121,24 @@ module _ (limits : Limits) (names names' : List (Option Name)) (es mid fs : List
   added_named = named_with names names' (map vertex_of es) (map vertex_of fs) (keys_of places) (record { id = id; labels = labels }) named raised fresh first
 
   -- what is kept is the graph with the vertex
-  pub added_vertex : add_vertex limits (kept_graph names (map vertex_of es) (keys_of places)) (record { id = id; labels = labels }) ≡ Ok (kept_graph names' (map vertex_of fs) (keys_of places))
+  pub added_vertex : add_vertex limits (kept_graph names (map vertex_of es) (keys_of places)) (record { id = id; labels = labels })
+      ≡ Ok (kept_graph names' (map vertex_of fs) (keys_of places))
   added_vertex =
       let okay : Graph → Result Graph Code = λ g. Ok g in
       add_vertex_done limits (kept_graph names (map vertex_of es) (keys_of places)) (record { id = id; labels = labels }) (has_vertex_of names es (keys_of places) id ∙ absent) room
       ∙ ap okay (graph_with names names' (map vertex_of es) (map vertex_of fs) (keys_of places) (record { id = id; labels = labels }) named raised fresh first)
 
   -- which is within the limits
-  pub added_held : id < 2 ^ 32 → IsLabelSet labels → IsWithinLimits limits (kept_graph names (map vertex_of es) (keys_of places)) → IsWithinLimits limits (kept_graph names' (map vertex_of fs) (keys_of places))
+  pub added_held : id < 2 ^ 32 → IsLabelSet labels → IsWithinLimits limits (kept_graph names (map vertex_of es) (keys_of places)) →
+      IsWithinLimits limits (kept_graph names' (map vertex_of fs) (keys_of places))
   added_held small is_set held =
       let sound : IsVertex (record { id = id; labels = labels }) = record { id = small; labels = is_set } in
       held_after limits (kept_graph names (map vertex_of es) (keys_of places)) (kept_graph names' (map vertex_of fs) (keys_of places)) (AddVertex id labels) held sound added_vertex
 
 -- ---- numbers that stand for what they stood for
 
-module _ (names names' : List (Option Name)) (es fs : List (ℕ × Node)) (links : List Link) (slots : (q : ℕ) → slot names' q ≡ slot names q) (entries : fs ≡ es) where
+module _ (names names' : List (Option Name)) (es fs : List (ℕ × Node)) (links : List Link) (slots : (q : ℕ) → slot names' q ≡ slot names q)
+    (entries : fs ≡ es) where
   -- they keep belonging to the vertices and links
   pub kept_named : IsNamed names (map vertex_of es) links → IsNamed names' (map vertex_of fs) links
   kept_named h = same_named names names' (map vertex_of es) (map vertex_of fs) links links slots (ap (map vertex_of) entries) (IsPermutation-refl links) h

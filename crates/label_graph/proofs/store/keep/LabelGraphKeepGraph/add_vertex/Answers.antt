@@ -8,7 +8,8 @@ use Rattle.label_graph.specs.Places.{ArePlaced, vertex_of}
 use Rattle.label_graph.specs.Store.{kept_graph}
 use Rattle.label_graph.proofs.StoreLemmas.{has_vertex_of}
 use Rattle.label_graph.proofs.VertexCountLemmas.{room_is}
-use Rattle.label_graph.proofs.VertexStoreLemmas.{add_vertex_stands, add_vertex_full, added_placed, added_named, added_vertex, added_held, kept_named, kept_same}
+use Rattle.label_graph.proofs.VertexStoreLemmas.{add_vertex_stands, add_vertex_full, added_placed, added_named, added_vertex, added_held}
+use Rattle.label_graph.proofs.VertexStoreLemmas.{kept_named, kept_same}
 use Rattle.label_graph.proofs.store.keep.LabelGraphKeepGraph.add_vertex.Goals as goal
 
 pub returns-then-contains_key-clause-refused : goal.returns-then-contains_key-clause-refused

@@ -8,7 +8,8 @@ use Rattle.label_graph.specs.Store.{kept_graph}
 use Rattle.label_graph.specs.Meaning.{graph_in}
 use Rattle.label_graph.proofs.HeldLemmas.{held_after}
 use Rattle.label_graph.proofs.EdgeLemmas.{edge_removed}
-use Rattle.label_graph.proofs.StoreLemmas.{has_triple_found, has_triple_unknown, drop_edge_apart, drop_edge_absent, no_src, no_dst, both_ends, removed_named}
+use Rattle.label_graph.proofs.StoreLemmas.{has_triple_found, has_triple_unknown, drop_edge_apart, drop_edge_absent, no_src, no_dst}
+use Rattle.label_graph.proofs.StoreLemmas.{both_ends, removed_named}
 use Rattle.label_graph.proofs.store.keep.LabelGraphKeepGraph.remove.Goals as goal
 
 pub returns-then-not-contains_key-clause-refused : goal.returns-then-not-contains_key-clause-refused

@@ -5,7 +5,8 @@ use Rattle.label_graph.specs.Places.{vertex_of}
 use Rattle.label_graph.specs.Store.{kept_graph}
 use Rattle.label_graph.proofs.StoreLemmas.{has_vertex_of}
 use Rattle.label_graph.proofs.VertexNodeLemmas.{incident_is}
-use Rattle.label_graph.proofs.VertexStoreLemmas.{drop_vertex_unknown, drop_vertex_busy, dropped_placed, dropped_named, dropped, dropped_held}
+use Rattle.label_graph.proofs.VertexStoreLemmas.{drop_vertex_unknown, drop_vertex_busy, dropped_placed, dropped_named, dropped}
+use Rattle.label_graph.proofs.VertexStoreLemmas.{dropped_held}
 use Rattle.label_graph.proofs.store.keep.LabelGraphKeepGraph.remove_vertex.Goals as goal
 
 pub returns-then-not-contains_key-clause-refused : goal.returns-then-not-contains_key-clause-refused
