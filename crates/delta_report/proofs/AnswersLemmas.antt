@@ -7,11 +7,11 @@ use Rattle.std.proofs.lemmas.Option.{slice_get_within, get_or_from_slice_get}
 use Rattle.flux_model.specs.Pattern.{PatternGraph}
 use Rattle.flux_model.specs.declared.maps.Delta.{Delta}
 use Rattle.flux_model.proofs.GrownLemmas.{flat_map_next}
-use Rattle.delta_report.specs.Words.{map_words}
+use Rattle.delta_report.specs.MapWords.{map_words}
 use Rattle.delta_report.specs.Block.{name_at}
 use Rattle.delta_report.specs.Answers.{answer_line, gained_lines, listing, answer_count}
 use Rattle.delta_report.proofs.BlockLemmas.{name_at-get}
-use Rattle.delta_report.proofs.WordsLemmas.{answer_line-parts}
+use Rattle.delta_report.proofs.MapWordsLemmas.{answer_line-parts}
 
 -- ---- the lines
 

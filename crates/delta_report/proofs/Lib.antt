@@ -1,4 +1,4 @@
-pub mod WordsLemmas
+pub mod MapWordsLemmas
 pub mod BlockLemmas
 pub mod AnswersLemmas
 pub mod SortedLemmas

@@ -1,4 +1,4 @@
-pub mod Words
+pub mod MapWords
 pub mod Block
 pub mod Answers
 pub mod Sorted

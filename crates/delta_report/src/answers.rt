@@ -7,8 +7,9 @@ ghost use Rattle.delta_report.specs.Block.{HavePatterns};
 ghost use Rattle.delta_report.specs.Answers.{answer_line, listing, answer_count, total_line, answers_text};
 ghost use Rattle.delta_report.specs.Sorted.{AreSorted};
 
-use crate::words::{end_line, end_map_line, start_line};
+use crate::map_words::end_map_line;
 use flux_model::{Deltas, Map, Maps, Patterns};
+use line_words::{end_line, start_line};
 use std::alloc::AllocError;
 
 /// Sorts the maps of each delta, and writes for each delta a line `m NAME IDS` for each map that was gained, and at the

@@ -7,8 +7,9 @@ ghost use Rattle.delta_report.specs.Block.{delta_lines, deltas_text, HavePattern
 ghost use Rattle.delta_report.specs.Sorted.{AreSorted};
 ghost use Rattle.flux_model.specs.Deltas.{AreReordered};
 
-use crate::words::{end_map_line, start_line};
+use crate::map_words::end_map_line;
 use flux_model::{Delta, Deltas, Map, Maps, Patterns};
+use line_words::start_line;
 use std::alloc::AllocError;
 
 /// Sorts the maps of each delta, and writes for each delta a line `+ NUMBER NAME IDS` for each map that was gained, and

@@ -3,8 +3,8 @@ ghost use Rattle.std.specs.Prelude.{◌≡◌, ◌++◌, OnOk, OnErr};
 ghost use Rattle.flux_model.specs.Grown.{GrewByFront};
 ghost use Rattle.flux_model.specs.Report.{refusal_line, end_line as last_line};
 
-use crate::words::{end_line, start_line, write_number, write_word};
 use flux_model::Code;
+use line_words::{end_line, start_line, write_number, write_word};
 use std::alloc::AllocError;
 
 /// Writes `! NUMBER WORD`: the line of this number is refused.

@@ -5,7 +5,7 @@ use Rattle.flux_model.specs.declared.maps.Delta.{Delta}
 use Rattle.flux_model.proofs.GrownLemmas.{on_ok, on_err, grew_first, grew_later, grew_same}
 use Rattle.delta_report.specs.Answers.{listing, total_line, answers_text}
 use Rattle.delta_report.proofs.SortedLemmas.{AreReordered-from_places, AreSorted-from_places, each_sorted_form}
-use Rattle.delta_report.proofs.WordsLemmas.{written_both}
+use Rattle.delta_report.proofs.MapWordsLemmas.{written_both}
 use Rattle.delta_report.proofs.answers.write_answers.Goals as goal
 
 pub returns-in_err-sort-clause-same : goal.returns-in_err-sort-clause-same

@@ -1,8 +1,8 @@
 use Rattle.std.proofs.lemmas.Result.{on_ok_weaker, on_err_weaker}
 use Rattle.flux_model.specs.Grown.{GrewByFront}
 use Rattle.flux_model.proofs.GrownLemmas.{grew_same, grew_later}
-use Rattle.delta_report.specs.Words.{map_words}
-use Rattle.delta_report.proofs.WordsLemmas.{answer_line-parts, written_both}
+use Rattle.delta_report.specs.MapWords.{map_words}
+use Rattle.delta_report.proofs.MapWordsLemmas.{answer_line-parts, written_both}
 use Rattle.delta_report.proofs.answers.write_map.Goals as goal
 
 pub returns-clause-ok : goal.returns-clause-ok

@@ -2,8 +2,8 @@ use Rattle.std.proofs.Common.{[], ◌∷◌}
 use Rattle.std.proofs.lemmas.Result.{on_ok_weaker, on_err_weaker}
 use Rattle.flux_model.specs.Grown.{GrewByFront}
 use Rattle.flux_model.proofs.GrownLemmas.{on_err, grew_same, grew_first, grew_later}
-use Rattle.delta_report.specs.Words.{map_words}
-use Rattle.delta_report.proofs.WordsLemmas.{map_line-parts, written_both}
+use Rattle.delta_report.specs.MapWords.{map_words}
+use Rattle.delta_report.proofs.MapWordsLemmas.{map_line-parts, written_both}
 use Rattle.delta_report.proofs.block.write_map.Goals as goal
 
 pub returns-in_err-start_line-clause-err : goal.returns-in_err-start_line-clause-err

@@ -2,7 +2,7 @@ use Rattle.std.proofs.Common.{codes, [], ◌∷◌}
 use Rattle.std.specs.Fmt.{decimal}
 use Rattle.flux_model.specs.Code.{code_word}
 use Rattle.flux_model.proofs.GrownLemmas.{on_err, grew_same, grew_first}
-use Rattle.delta_report.proofs.WordsLemmas.{text_line-start}
+use Rattle.line_words.proofs.LineLemmas.{text_line-start}
 use Rattle.delta_report.proofs.lines.write_refusal.Goals as goal
 
 pub returns-in_err-start_line-clause-err : goal.returns-in_err-start_line-clause-err

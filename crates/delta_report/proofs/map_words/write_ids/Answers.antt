@@ -1,9 +1,9 @@
 use Rattle.std.proofs.Common.{◌≡◌, ℕ, get_or, ◌<◌, length, arith}
 use Rattle.std.specs.Fmt.{decimal}
 use Rattle.std.proofs.lemmas.Option.{slice_get-get_or}
-use Rattle.delta_report.specs.Words.{spaced}
+use Rattle.line_words.specs.Words.{spaced}
 use Rattle.flux_model.proofs.GrownLemmas.{on_err, grew_at}
-use Rattle.delta_report.proofs.words.write_ids.Goals as goal
+use Rattle.delta_report.proofs.map_words.write_ids.Goals as goal
 
 pub returns-in_err-write_number-clause-err : goal.returns-in_err-write_number-clause-err
 returns-in_err-write_number-clause-err c =

@@ -1,6 +1,6 @@
 use Rattle.std.proofs.Common.{◌≡◌, ◌++◌, take}
-use Rattle.delta_report.specs.Words.{spaced_ids}
-use Rattle.delta_report.proofs.words.write_ids.Given as goal
+use Rattle.delta_report.specs.MapWords.{spaced_ids}
+use Rattle.delta_report.proofs.map_words.write_ids.Given as goal
 
 -- the ids so far
 abbrev pub invariant-loop-i : goal.invariant-loop-i

@@ -1,7 +1,7 @@
 use Rattle.std.proofs.Common.{[], ◌∷◌}
 use Rattle.std.proofs.lemmas.Result.{on_err_weaker}
 use Rattle.flux_model.proofs.GrownLemmas.{grew_later}
-use Rattle.delta_report.proofs.words.start_line.Goals as goal
+use Rattle.line_words.proofs.words.start_line.Goals as goal
 
 pub returns-clause-err : goal.returns-clause-err
 returns-clause-err c =

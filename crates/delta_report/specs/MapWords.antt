@@ -1,10 +1,7 @@
--- The words of a line.
+-- The words with which the line of a map ends.
 use Rattle.std.specs.Prelude.{ℕ, List, [], ◌∷◌, ◌++◌, flat_map}
 use Rattle.std.specs.Fmt.{decimal}
-
--- a word with the space before it
-abbrev pub spaced : List ℕ → List ℕ
-spaced word = 32 ∷ word
+use Rattle.line_words.specs.Words.{spaced}
 
 -- numbers, each with the space before it
 abbrev pub spaced_ids : List ℕ → List ℕ

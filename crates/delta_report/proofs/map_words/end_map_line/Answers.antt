@@ -1,6 +1,6 @@
 use Rattle.std.proofs.lemmas.Result.{on_err_weaker}
 use Rattle.flux_model.proofs.GrownLemmas.{on_err, grew_none, grew_first, grew_later}
-use Rattle.delta_report.proofs.words.end_map_line.Goals as goal
+use Rattle.delta_report.proofs.map_words.end_map_line.Goals as goal
 
 pub returns-in_err-write_word-clause-err : goal.returns-in_err-write_word-clause-err
 returns-in_err-write_word-clause-err c = on_err _ (grew_first _ _ _ _ c.in_err-write_word.ensures.err)
