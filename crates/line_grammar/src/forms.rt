@@ -1,6 +1,7 @@
 //! The forms of a file: the first word of a line decides which it is.
 ghost use Rattle.std.specs.Prelude.{◌≡◌, IfOk};
-ghost use Rattle.flux_model.specs.Reading.{read_vertex, read_edge, read_id, added_edge, dropped_edge, pattern_edge, read_graph_form, read_update_form, read_pattern_form};
+ghost use Rattle.flux_model.specs.Reading.{read_vertex, read_edge, read_id, added_edge, dropped_edge, pattern_edge};
+ghost use Rattle.flux_model.specs.Reading.{read_graph_form, read_update_form, read_pattern_form};
 ghost use Rattle.flux_model.specs.declared.graph.Update.TheVariants.{AddVertex, DropVertex};
 ghost use Rattle.flux_model.specs.declared.pattern.PatternPart.TheVariants as part;
 ghost use Rattle.line_grammar.specs.Left.{words_left};
