@@ -1,4 +1,4 @@
-pub mod WordsLemmas
+pub mod LineLemmas
 pub mod OrderLemmas
 pub mod VertexLemmas
 pub mod RowLemmas

@@ -3,12 +3,12 @@ ghost use Rattle.std.specs.Prelude.{◌≡◌, ◌++◌, flat_map, IfOk, OnOk, O
 ghost use Rattle.flux_model.specs.Grown.{GrewByFront};
 ghost use Rattle.flux_model.specs.Graph.{IsGraph, ids as graph_ids};
 ghost use Rattle.flux_model.specs.GraphText.{vertex_line, triple_line, graph_text};
-ghost use Rattle.snapshot_text.specs.Words.{spaced};
+ghost use Rattle.line_words.specs.Words.{spaced};
 
 use crate::row::write_row;
-use crate::words::{end_line, start_line, write_word};
 use flux_model::{Labels, Ledger, Steps};
 use graph_traits::ReadGraph;
+use line_words::{end_line, start_line, write_word};
 use std::alloc::{AllocError, Global};
 
 /// Writes the text of a graph: a line `v ID LABEL..` for each vertex, ascending by id, and then a line `e SRC DST LABEL` for
@@ -70,7 +70,7 @@ fn write_vertex(id: u32, labels: &Labels, out: &mut Vec<u8>) -> Result<(), Alloc
     ensures ok { OnOk result (out.new.items ≡ out.old.items ++ vertex_line (record { id = id; labels = labels.now })) }
     ensures err { OnErr result (GrewByFront out.old.items out.new.items (vertex_line (record { id = id; labels = labels.now }))) }
 {
-    start_line(b'v', id, out)?;
+    start_line(b'v', u64::from(id), out)?;
     write_labels(labels, out)?;
     end_line(out)
 }

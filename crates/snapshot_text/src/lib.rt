@@ -4,13 +4,11 @@
 //!
 //! - `graph`: `write_graph`, the vertices in the order of their ids, and the edges of each.
 //! - `row`: the edges that begin at one vertex, in order.
-//! - `words`: the words of a line.
 #![tactic(auto)]
 
 mod graph;
 mod row;
 #[cfg(test)]
 mod tests;
-mod words;
 
 pub use graph::write_graph;

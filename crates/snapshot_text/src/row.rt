@@ -6,10 +6,10 @@ ghost use Rattle.flux_model.specs.GraphText.{triple_line};
 ghost use Rattle.graph_traits.specs.Rows.{triples_from};
 ghost use Rattle.snapshot_text.specs.Row.{edge_triple};
 
-use crate::words::{end_line, start_line, write_id, write_word};
 use flux_model::{Ledger, Steps, Text};
 use graph_rows::{Direction, WholeRow};
 use graph_traits::ReadGraph;
+use line_words::{end_line, start_line, write_number, write_word};
 use std::alloc::AllocError;
 
 /// An edge of a vertex's row: its label and its other end, by which a row is ordered.
@@ -80,8 +80,8 @@ fn write_edge(src: u32, edge: &RowEdge<'_>, out: &mut Vec<u8>) -> Result<(), All
     ensures ok { OnOk result (out.new.items ≡ out.old.items ++ triple_line (edge_triple src edge.now)) }
     ensures err { OnErr result (GrewByFront out.old.items out.new.items (triple_line (edge_triple src edge.now))) }
 {
-    start_line(b'e', src, out)?;
-    write_id(edge.other, out)?;
+    start_line(b'e', u64::from(src), out)?;
+    write_number(u64::from(edge.other), out)?;
     write_word(edge.label.bytes(), out)?;
     end_line(out)
 }

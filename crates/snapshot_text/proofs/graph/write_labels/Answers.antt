@@ -1,4 +1,4 @@
-use Rattle.snapshot_text.specs.Words.{spaced}
+use Rattle.line_words.specs.Words.{spaced}
 use Rattle.flux_model.proofs.GrownLemmas.{on_err, flat_map_next, grew_at}
 use Rattle.snapshot_text.proofs.graph.write_labels.Goals as goal
 

@@ -1,6 +1,6 @@
 use Rattle.std.proofs.Common.{◌≡◌, ◌++◌, take}
 use Rattle.std.specs.List.{flat_map}
-use Rattle.snapshot_text.specs.Words.{spaced}
+use Rattle.line_words.specs.Words.{spaced}
 use Rattle.snapshot_text.proofs.graph.write_labels.Given as goal
 
 -- the labels so far
