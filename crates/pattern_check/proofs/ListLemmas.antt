@@ -4,10 +4,12 @@ use Rattle.std.specs.List.{list_any, AllByRecursion}
 use Rattle.std.proofs.lemmas.List.Folds.{list_any-append}
 use Rattle.flux_model.specs.Ordered.{are_distinct_by}
 
+-- both hold
 pub both : (b c : Bool) → b && c ≡ true → (b ≡ true) × (c ≡ true)
 both true c h = (refl, h)
 both false c h = (h, cc)
 
+-- neither holds
 pub neither : (b c : Bool) → b || c ≡ false → (b ≡ false) × (c ≡ false)
 neither true c h = (h, cc)
 neither false c h = (refl, h)
@@ -16,14 +18,17 @@ not_true : (b : Bool) → not b ≡ true → b ≡ false
 not_true true h = cc
 not_true false h = refl
 
+-- one element more
 pub AllByRecursion-push : {X : Type 0} (P : X → Type 0) (xs : List X) (y : X) → AllByRecursion P xs → P y → AllByRecursion P (xs ++ y ∷ [])
 AllByRecursion-push P [] y a p = (p, tt)
 AllByRecursion-push P (x ∷ xs) y a p = (a.0, AllByRecursion-push P xs y a.1 p)
 
+-- by a weaker property
 pub AllByRecursion-weaker : {X : Type 0} (P Q : X → Type 0) → ((x : X) → P x → Q x) → (xs : List X) → AllByRecursion P xs → AllByRecursion Q xs
 AllByRecursion-weaker P Q f [] a = tt
 AllByRecursion-weaker P Q f (x ∷ xs) a = (f x a.0, AllByRecursion-weaker P Q f xs a.1)
 
+-- what is so of all is so of the element at a place
 pub AllByRecursion-at : {X : Type 0} (P : X → Type 0) (xs : List X) (i : ℕ) (d : X) → AllByRecursion P xs → i < length xs → P (get_or xs i d)
 AllByRecursion-at P [] i d a h = absurd (omega arith)
 AllByRecursion-at P (x ∷ xs) zero d a h = a.0
@@ -38,6 +43,7 @@ distinct_push same (y ∷ ys) x d n =
     let e : list_any (same y) ys ≡ false = not_true (list_any (same y) ys) two.0 in
     rw (list_any-append (same y) ys (x ∷ []), e, new.0) (distinct_push same ys x two.1 new.1)
 
+-- a front part of distinct elements is distinct
 pub distinct_front : {K : Type 0} (same : K → K → Bool) (xs ys : List K) → are_distinct_by same (xs ++ ys) ≡ true → are_distinct_by same xs ≡ true
 distinct_front same [] ys d = refl
 distinct_front same (x ∷ xs) ys d =

@@ -69,9 +69,11 @@ filter_alike p q s (suc n) h = by (q s) refl (filter_alike p q (s + 1) n (λ u l
 
 -- ---- one round further
 
+-- ends below n are below 32
 pub ends_within : (n : ℕ) (edges : List PatternEdge) → n ≤ 32 → AllByRecursion (HasEnds n) edges → AllByRecursion (HasEnds 32) edges
 ends_within n edges few ends = AllByRecursion-weaker (HasEnds n) (HasEnds 32) (λ e h. (omega (arith, h.0), omega (arith, h.1))) edges ends
 
+-- one step of the search reaches what one step of the definition does
 pub reached_more : (edges : List PatternEdge) (n k : ℕ) (before after : List Bool) → n ≤ 32 → AllByRecursion (HasEnds n) edges → marked before n ≡ reached edges n k → ((u : ℕ) → u < 32 → is_marked after u ≡ is_near edges before u) → marked after n ≡ reached edges n (k + 1)
 reached_more edges n k before after few ends e near =
     filter_alike (is_marked after) (λ u. is_in nat_cmp u (marked before n) || is_next_to edges (marked before n) u) 0 n
@@ -88,6 +90,7 @@ along seen e next =
     let there = set next e.head (is_marked next e.head || is_marked seen e.tail) in
     set there e.tail (is_marked there e.tail || is_marked seen e.head)
 
+-- an edge leaves the number of marks
 pub length-along : (seen : List Bool) (e : PatternEdge) (next : List Bool) → length (along seen e next) ≡ length next
 length-along seen e next = simp length-set
 
@@ -120,6 +123,7 @@ unmarked zero u = refl
 unmarked (suc n) zero = refl
 unmarked (suc n) (suc u) = unmarked n u
 
+-- at first vertex 0 alone is marked
 pub reached_none : (edges : List PatternEdge) (n m : ℕ) → 1 ≤ n → marked (set (replicate (suc m) false) 0 true) n ≡ reached edges n 0
 reached_none edges zero m some = absurd (omega arith)
 reached_none edges (suc n) m some = ap (λ l. 0 ∷ l) (none_marked (true ∷ replicate m false) (0 + 1) n later)
@@ -151,6 +155,7 @@ all_marked marks s (suc n) h =
     ap (λ l. list_all (λ b. b) (take (suc n) l)) (drop_more marks s false (omega arith))
     ∙ ap (λ b. is_marked marks s && b) (all_marked marks (s + 1) n (omega arith))
 
+-- all are marked exactly where as many are reached as there are
 pub connected_is : (edges : List PatternEdge) (n : ℕ) (marks : List Bool) → n ≤ length marks → marked marks n ≡ reached edges n n → list_all (λ b. b) (take n marks) ≡ (length (reached edges n n) == n)
 connected_is edges n marks h e =
     all_marked marks 0 n (omega arith) ∙ count_all (is_marked marks) 0 n ∙ ap (λ (l : List ℕ). length l == n) e

@@ -11,6 +11,7 @@ use Rattle.flux_model.specs.declared.pattern.PatternEdge.{PatternEdge}
 use Rattle.pattern_check.specs.Reading.{IsOpen}
 use Rattle.pattern_check.proofs.ListLemmas.{neither, AllByRecursion-push, AllByRecursion-weaker, distinct_push}
 
+-- one vertex more, where there is room for it
 pub with_vertex : (q : PatternGraph) (labels : List (List ℕ)) → IsOpen q → IsLabelSet labels → vertex_count q < 32 → IsOpen (record q { labels = q.labels ++ labels ∷ [] })
 with_vertex q labels before set few = record {
   name = before.name;
@@ -36,6 +37,7 @@ any_same e (f ∷ fs) = (λ i. same_edge_symm f e i || any_same e fs i)
 within : (n k : ℕ) → nat_le n k ≡ false → k < n
 within n k h = grind (arith, nat_tests)
 
+-- one edge more, with both ends, that is not there yet, where there is room for it
 pub with_edge : (q : PatternGraph) (e : PatternEdge) → IsOpen q → IsText e.label → (nat_le (vertex_count q) e.tail || nat_le (vertex_count q) e.head) ≡ false → list_any (same_edge e) q.edges ≡ false → length q.edges < 64 → IsOpen (record q { edges = q.edges ++ e ∷ [] })
 with_edge q e before text ends new few = record {
   name = before.name;

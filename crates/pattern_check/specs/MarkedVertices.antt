@@ -3,6 +3,7 @@ use Rattle.std.specs.Prelude.{ℕ, Bool, false, ◌==◌, ◌&&◌, ◌||◌, Li
 use Rattle.std.specs.List.{list_any, range_with_len}
 use Rattle.flux_model.specs.declared.pattern.PatternEdge.{PatternEdge}
 
+-- no vertex past the end of the marks is marked
 abbrev pub is_marked : List Bool → ℕ → Bool
 is_marked marks u = slice_index_or marks u false
 

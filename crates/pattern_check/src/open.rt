@@ -25,7 +25,10 @@ impl Model for Open {
 
     ghost Value = { OpenPattern };
 
-    ghost view = { λ o. record { line = o.line; pattern = record { name = o.name; mode = o.mode; labels = o.labels.items; edges = o.edges.items } } };
+    ghost view = { λ o. record {
+      line = o.line;
+      pattern = record { name = o.name; mode = o.mode; labels = o.labels.items; edges = o.edges.items };
+    } };
 
     ghost invariant = { λ o. IsOpen (record { name = o.name; mode = o.mode; labels = o.labels.items; edges = o.edges.items }) };
 }
@@ -57,8 +60,10 @@ impl Open {
         labels: Labels,
     ) -> Result<Result<(), Bad>, AllocError>
         requires { IsFair limits.now }
-        ensures added { IfOk result (λ answer. OnOk answer (add_pattern_vertex limits.now line n labels self.old.pattern ≡ Ok self.new.pattern)) }
-        ensures refused { IfOk result (λ answer. IfErr answer (λ bad. add_pattern_vertex limits.now line n labels self.old.pattern ≡ Err bad)) }
+        ensures added { let step = add_pattern_vertex limits.now line n labels self.old.pattern in
+            IfOk result (λ answer. OnOk answer (step ≡ Ok self.new.pattern)) }
+        ensures refused { let step = add_pattern_vertex limits.now line n labels self.old.pattern in
+            IfOk result (λ answer. IfErr answer (λ bad. step ≡ Err bad)) }
         ensures line { self.new.line ≡ self.old.line }
         ensures name { self.new.pattern.name ≡ self.old.pattern.name }
     {
@@ -83,8 +88,10 @@ impl Open {
         edge: PatternEdge,
     ) -> Result<Result<(), Bad>, AllocError>
         requires { IsFair limits.now }
-        ensures added { IfOk result (λ answer. OnOk answer (add_pattern_edge limits.now line edge self.old.pattern ≡ Ok self.new.pattern)) }
-        ensures refused { IfOk result (λ answer. IfErr answer (λ bad. add_pattern_edge limits.now line edge self.old.pattern ≡ Err bad)) }
+        ensures added { let step = add_pattern_edge limits.now line edge self.old.pattern in
+            IfOk result (λ answer. OnOk answer (step ≡ Ok self.new.pattern)) }
+        ensures refused { let step = add_pattern_edge limits.now line edge self.old.pattern in
+            IfOk result (λ answer. IfErr answer (λ bad. step ≡ Err bad)) }
         ensures line { self.new.line ≡ self.old.line }
         ensures name { self.new.pattern.name ≡ self.old.pattern.name }
     {

@@ -34,7 +34,8 @@ impl Model for PatternReader {
 }
 
 impl PatternReader {
-    ghost use Rattle.flux_model.specs.PatternFile.{empty_draft, take_part, close, begin_pattern, add_pattern_vertex, add_pattern_edge, change_last};
+    ghost use Rattle.flux_model.specs.PatternFile.{empty_draft, take_part, close, change_last};
+    ghost use Rattle.flux_model.specs.PatternFile.{begin_pattern, add_pattern_vertex, add_pattern_edge};
 
     /// A reader that has taken nothing yet.
     pub fn new(alloc: Global, limits: &Limits) -> PatternReader
@@ -62,8 +63,10 @@ impl PatternReader {
     pub fn take(&mut self, line: u64, part: PatternPart) -> Result<Result<(), Bad>, AllocError>
         requires { self.old.spent ≡ false }
         ensures limits { self.new.limits ≡ self.old.limits }
-        ensures taken { IfOk result (λ answer. OnOk answer (take_part self.old.limits line self.old.draft part ≡ Ok self.new.draft)) }
-        ensures refused { IfOk result (λ answer. IfErr answer (λ bad. take_part self.old.limits line self.old.draft part ≡ Err bad)) }
+        ensures taken { let step = take_part self.old.limits line self.old.draft part in
+            IfOk result (λ answer. OnOk answer (step ≡ Ok self.new.draft)) }
+        ensures refused { let step = take_part self.old.limits line self.old.draft part in
+            IfOk result (λ answer. IfErr answer (λ bad. step ≡ Err bad)) }
         ensures spent { IfOk result (λ answer. self.new.spent ≡ is_err answer) }
         ensures err { OnErr result (self.new.spent ≡ true) }
     {
@@ -87,8 +90,10 @@ impl PatternReader {
     /// Takes a part, by its form.
     fn take_part(&mut self, line: u64, part: PatternPart) -> Result<Result<(), Bad>, AllocError>
         ensures limits { self.new.limits ≡ self.old.limits }
-        ensures taken { IfOk result (λ answer. OnOk answer (take_part self.old.limits line self.old.draft part ≡ Ok self.new.draft)) }
-        ensures refused { IfOk result (λ answer. IfErr answer (λ bad. take_part self.old.limits line self.old.draft part ≡ Err bad)) }
+        ensures taken { let step = take_part self.old.limits line self.old.draft part in
+            IfOk result (λ answer. OnOk answer (step ≡ Ok self.new.draft)) }
+        ensures refused { let step = take_part self.old.limits line self.old.draft part in
+            IfOk result (λ answer. IfErr answer (λ bad. step ≡ Err bad)) }
     {
         match part {
             PatternPart::Name { name, mode } => self.begin(line, name, mode),
@@ -107,8 +112,10 @@ impl PatternReader {
     /// Closes the open pattern, and opens one without vertices.
     fn begin(&mut self, line: u64, name: Text, mode: Mode) -> Result<Result<(), Bad>, AllocError>
         ensures limits { self.new.limits ≡ self.old.limits }
-        ensures taken { IfOk result (λ answer. OnOk answer (take_part self.old.limits line self.old.draft (PatternPart.Name name mode) ≡ Ok self.new.draft)) }
-        ensures refused { IfOk result (λ answer. IfErr answer (λ bad. take_part self.old.limits line self.old.draft (PatternPart.Name name mode) ≡ Err bad)) }
+        ensures taken { let step = take_part self.old.limits line self.old.draft (PatternPart.Name name mode) in
+            IfOk result (λ answer. OnOk answer (step ≡ Ok self.new.draft)) }
+        ensures refused { let step = take_part self.old.limits line self.old.draft (PatternPart.Name name mode) in
+            IfOk result (λ answer. IfErr answer (λ bad. step ≡ Err bad)) }
     {
         match self.close()? {
             Ok(()) => Ok(self.start(line, name, mode)),
@@ -161,8 +168,10 @@ impl PatternReader {
         labels: Labels,
     ) -> Result<Result<(), Bad>, AllocError>
         ensures limits { self.new.limits ≡ self.old.limits }
-        ensures taken { IfOk result (λ answer. OnOk answer (change_last line self.old.draft (add_pattern_vertex self.old.limits line n labels) ≡ Ok self.new.draft)) }
-        ensures refused { IfOk result (λ answer. IfErr answer (λ bad. change_last line self.old.draft (add_pattern_vertex self.old.limits line n labels) ≡ Err bad)) }
+        ensures taken { let step = change_last line self.old.draft (add_pattern_vertex self.old.limits line n labels) in
+            IfOk result (λ answer. OnOk answer (step ≡ Ok self.new.draft)) }
+        ensures refused { let step = change_last line self.old.draft (add_pattern_vertex self.old.limits line n labels) in
+            IfOk result (λ answer. IfErr answer (λ bad. step ≡ Err bad)) }
     {
         let Some(open) = &mut self.last else {
             return Ok(refused(line, Code::NoName));
@@ -173,8 +182,10 @@ impl PatternReader {
     /// Adds an edge to the open pattern.
     fn add_edge(&mut self, line: u64, edge: PatternEdge) -> Result<Result<(), Bad>, AllocError>
         ensures limits { self.new.limits ≡ self.old.limits }
-        ensures taken { IfOk result (λ answer. OnOk answer (change_last line self.old.draft (add_pattern_edge self.old.limits line edge) ≡ Ok self.new.draft)) }
-        ensures refused { IfOk result (λ answer. IfErr answer (λ bad. change_last line self.old.draft (add_pattern_edge self.old.limits line edge) ≡ Err bad)) }
+        ensures taken { let step = change_last line self.old.draft (add_pattern_edge self.old.limits line edge) in
+            IfOk result (λ answer. OnOk answer (step ≡ Ok self.new.draft)) }
+        ensures refused { let step = change_last line self.old.draft (add_pattern_edge self.old.limits line edge) in
+            IfOk result (λ answer. IfErr answer (λ bad. step ≡ Err bad)) }
     {
         let Some(open) = &mut self.last else {
             return Ok(refused(line, Code::NoName));

@@ -1,8 +1,9 @@
 //! Pattern files by hand, given to a reader line by line.
-ghost use Rattle.flux_model.specs.Limits.{IsFair};
 
 use crate::PatternReader;
-use flux_model::{Bad, Code, Labels, Limits, Mode, PatternPart, Patterns, Text};
+use flux_model::{
+    Bad, Code, Labels, Limits, Mode, Pattern, PatternEdge, PatternPart, Patterns, Text,
+};
 use std::alloc::{AllocError, Global};
 use std::process::Abort;
 use std::test::Fail;
@@ -52,160 +53,217 @@ fn part(rt: &impl Abort, alloc: Global, given: Given) -> Result<PatternPart, All
     }
 }
 
-/// What the lines make, which are numbered from 1.
+/// What the lines make, which are numbered from 1. The reader is spent by a refusal, and not before.
 fn read(
     rt: &impl Abort,
     alloc: Global,
     limits: &Limits,
     lines: &[Given],
-) -> Result<Result<Patterns, Bad>, AllocError>
-    requires { IsFair limits.now }
-{
+) -> Result<Result<Patterns, Bad>, AllocError> {
+    assert!(rt; limits.fair());
     let mut reader = PatternReader::new(alloc, limits);
     for (i, given) in lines.iter().enumerate() {
+        assert!(rt; !reader.is_spent());
         let part = part(rt, alloc, *given)?;
         if let Err(bad) = reader.take(i as u64 + 1, part)? {
+            assert!(rt; reader.is_spent());
             return Ok(Err(bad));
         }
     }
+    assert!(rt; !reader.is_spent());
     reader.finish()
 }
 
-/// The refusal of the lines, if there is one.
-fn refusal(
+const REFUSED: [(&[Given], u64, Code); 15] = [
+    (&[Plain(0)], 1, Code::NoName),
+    (&[Edge(0, 0, "r")], 1, Code::NoName),
+    (&[Hom("a"), Plain(1)], 2, Code::Order),
+    (&[Hom("a"), Plain(0), Plain(0)], 3, Code::Order),
+    (&[Hom("a"), Hom("b"), Plain(0)], 1, Code::Empty),
+    (&[Hom("a"), Hom("a")], 1, Code::Empty),
+    (&[Hom("a"), Plain(0), Iso("a")], 3, Code::Exists),
+    (&[Hom("a"), Plain(0), Edge(0, 1, "r")], 3, Code::NoVertex),
+    (&[Hom("a"), Plain(0), Edge(1, 0, "r")], 3, Code::NoVertex),
+    (
+        &[Hom("a"), Plain(0), Edge(0, 0, "r"), Edge(0, 0, "r")],
+        4,
+        Code::Exists,
+    ),
+    (&[Hom("a"), Plain(0), Hom("b")], 3, Code::Empty),
+    (
+        &[Hom("a"), Plain(0), Plain(1), Hom("b"), Plain(0)],
+        1,
+        Code::Apart,
+    ),
+    (
+        &[Hom("a"), Plain(0), Hom("b"), Plain(0), Plain(1)],
+        3,
+        Code::Apart,
+    ),
+    (
+        &[Hom("a"), Plain(0), Plain(1), Edge(1, 1, "r")],
+        1,
+        Code::Apart,
+    ),
+    (&[Hom("a")], 1, Code::Empty),
+];
+
+const TOO_MANY: [(&[Given], u64, Code); 3] = [
+    (&[Hom("a"), Plain(0), Plain(1)], 3, Code::Full),
+    (
+        &[Hom("a"), Plain(0), Edge(0, 0, "r"), Edge(0, 0, "s")],
+        4,
+        Code::Full,
+    ),
+    (
+        &[Hom("a"), Plain(0), Edge(0, 0, "r"), Hom("b")],
+        4,
+        Code::Full,
+    ),
+];
+
+/// Asserts that each file is refused at this line and by this code.
+fn check_refusals(
     rt: &impl Abort,
     alloc: Global,
     limits: &Limits,
-    lines: &[Given],
-) -> Result<Option<Bad>, AllocError> {
-    assert!(rt; limits.fair());
-    match read(rt, alloc, limits, lines)? {
-        Ok(_) => Ok(None),
-        Err(bad) => Ok(Some(bad)),
-    }
-}
-
-#[test]
-fn refuses_a_line(rt: HostRuntime) -> Result<(), Fail> {
-    let rows: [(&[Given], u64, Code); 15] = [
-        (&[Plain(0)], 1, Code::NoName),
-        (&[Edge(0, 0, "r")], 1, Code::NoName),
-        (&[Hom("a"), Plain(1)], 2, Code::Order),
-        (&[Hom("a"), Plain(0), Plain(0)], 3, Code::Order),
-        (&[Hom("a"), Hom("b"), Plain(0)], 1, Code::Empty),
-        (&[Hom("a"), Hom("a")], 1, Code::Empty),
-        (&[Hom("a"), Plain(0), Iso("a")], 3, Code::Exists),
-        (&[Hom("a"), Plain(0), Edge(0, 1, "r")], 3, Code::NoVertex),
-        (&[Hom("a"), Plain(0), Edge(1, 0, "r")], 3, Code::NoVertex),
-        (
-            &[Hom("a"), Plain(0), Edge(0, 0, "r"), Edge(0, 0, "r")],
-            4,
-            Code::Exists,
-        ),
-        (&[Hom("a"), Plain(0), Hom("b")], 3, Code::Empty),
-        (
-            &[Hom("a"), Plain(0), Plain(1), Hom("b"), Plain(0)],
-            1,
-            Code::Apart,
-        ),
-        (
-            &[Hom("a"), Plain(0), Hom("b"), Plain(0), Plain(1)],
-            3,
-            Code::Apart,
-        ),
-        (
-            &[Hom("a"), Plain(0), Plain(1), Edge(1, 1, "r")],
-            1,
-            Code::Apart,
-        ),
-        (&[Hom("a")], 1, Code::Empty),
-    ];
+    rows: &[(&[Given], u64, Code)],
+) -> Result<(), AllocError> {
     for (lines, line, code) in rows {
-        let found = refusal(&rt, rt.alloc(), &Limits::standard(), lines)?;
-        assert_eq!(rt; found, Some(Bad { line, code }));
+        match read(rt, alloc, limits, lines)? {
+            Ok(_) => assert!(rt; false, "accepted up to line {line}"),
+            Err(bad) => assert_eq!(rt;
+                bad,
+                Bad {
+                    line: *line,
+                    code: *code
+                }
+            ),
+        }
     }
     Ok(())
 }
 
 #[test]
-fn refuses_more_than_the_limits(rt: HostRuntime) -> Result<(), Fail> {
+fn refuses_a_line(rt: HostRuntime) -> Result<(), Fail> {
+    check_refusals(&rt, rt.alloc(), &Limits::standard(), &REFUSED)?;
     let least = Limits {
         patterns: 1,
         pattern_vertices: 1,
         pattern_edges: 1,
         ..Limits::standard()
     };
-    let rows: [(&[Given], u64); 3] = [
-        (&[Hom("a"), Plain(0), Plain(1)], 3),
-        (&[Hom("a"), Plain(0), Edge(0, 0, "r"), Edge(0, 0, "s")], 4),
-        (&[Hom("a"), Plain(0), Edge(0, 0, "r"), Hom("b")], 4),
-    ];
-    for (lines, line) in rows {
-        let found = refusal(&rt, rt.alloc(), &least, lines)?;
-        let full = Bad {
-            line,
-            code: Code::Full,
-        };
-        assert_eq!(rt; found, Some(full));
-    }
+    check_refusals(&rt, rt.alloc(), &least, &TOO_MANY)?;
     Ok(())
 }
+
+/// A pattern as it has to be read.
+#[derive(Clone, Copy)]
+struct Want {
+    name: &'static str,
+    mode: Mode,
+    labels: &'static [&'static [&'static str]],
+    edges: &'static [(usize, usize, &'static str)],
+}
+
+fn are_labels(labels: &Labels, names: &[&str]) -> bool {
+    if labels.len() != names.len() {
+        return false;
+    }
+    for (i, name) in names.iter().enumerate() {
+        if labels.get(i).bytes() != name.as_bytes() {
+            return false;
+        }
+    }
+    true
+}
+
+fn have_labels(pattern: &Pattern, labels: &[&[&str]]) -> bool {
+    if pattern.vertex_count() != labels.len() {
+        return false;
+    }
+    for (i, names) in labels.iter().enumerate() {
+        if !are_labels(pattern.labels(i), names) {
+            return false;
+        }
+    }
+    true
+}
+
+fn is_edge(edge: &PatternEdge, tail: usize, head: usize, label: &str) -> bool {
+    edge.tail == tail && edge.head == head && edge.label.bytes() == label.as_bytes()
+}
+
+fn has_edges(pattern: &Pattern, edges: &[(usize, usize, &str)]) -> bool {
+    if pattern.edge_count() != edges.len() {
+        return false;
+    }
+    for (i, (tail, head, label)) in edges.iter().enumerate() {
+        if !is_edge(pattern.edge(i), *tail, *head, label) {
+            return false;
+        }
+    }
+    true
+}
+
+fn is_pattern(pattern: &Pattern, want: &Want) -> bool {
+    pattern.name().bytes() == want.name.as_bytes()
+        && pattern.mode() == want.mode
+        && have_labels(pattern, want.labels)
+        && has_edges(pattern, want.edges)
+}
+
+fn are_patterns(patterns: &Patterns, wants: &[Want]) -> bool {
+    if patterns.count() != wants.len() {
+        return false;
+    }
+    for (i, want) in wants.iter().enumerate() {
+        if !is_pattern(patterns.get(i), want) {
+            return false;
+        }
+    }
+    true
+}
+
+const CHAIN: Want = Want {
+    name: "chain",
+    mode: Mode::Hom,
+    labels: &[&["A"], &[], &["B"]],
+    edges: &[(1, 0, "r"), (1, 2, "s")],
+};
+
+const LOOP: Want = Want {
+    name: "loop",
+    mode: Mode::Iso,
+    labels: &[&[]],
+    edges: &[(0, 0, "r")],
+};
+
+const FILES: [(&[Given], &[Want]); 2] = [
+    (&[], &[]),
+    (
+        &[
+            Hom("chain"),
+            Labelled(0, "A"),
+            Plain(1),
+            Labelled(2, "B"),
+            Edge(1, 0, "r"),
+            Edge(1, 2, "s"),
+            Iso("loop"),
+            Plain(0),
+            Edge(0, 0, "r"),
+        ],
+        &[CHAIN, LOOP],
+    ),
+];
 
 #[test]
 fn reads_patterns(rt: HostRuntime) -> Result<(), Fail> {
-    let limits = Limits::standard();
-    assert!(rt; limits.fair());
-    let lines = [
-        Hom("chain"),
-        Labelled(0, "A"),
-        Plain(1),
-        Labelled(2, "B"),
-        Edge(1, 0, "r"),
-        Edge(1, 2, "s"),
-        Iso("loop"),
-        Plain(0),
-        Edge(0, 0, "r"),
-    ];
-    let patterns = match read(&rt, rt.alloc(), &limits, &lines)? {
-        Ok(patterns) => patterns,
-        Err(bad) => return Err(Fail::from(bad)),
-    };
-    assert_eq!(rt; patterns.count(), 2);
-    let chain = patterns.get(0);
-    assert_eq!(rt; chain.name().bytes(), b"chain".as_slice());
-    assert_eq!(rt; chain.mode(), Mode::Hom);
-    assert_eq!(rt; chain.vertex_count(), 3);
-    assert_eq!(rt; chain.labels(1).len(), 0);
-    assert_eq!(rt; chain.labels(2).len(), 1);
-    assert_eq!(rt; chain.labels(2).get(0).bytes(), b"B".as_slice());
-    assert_eq!(rt; chain.edge_count(), 2);
-    let edge = chain.edge(1);
-    assert_eq!(rt; (edge.tail, edge.head), (1, 2));
-    assert_eq!(rt; edge.label.bytes(), b"s".as_slice());
-    let loop_pattern = patterns.get(1);
-    assert_eq!(rt; loop_pattern.mode(), Mode::Iso);
-    assert_eq!(rt; loop_pattern.vertex_count(), 1);
-    assert_eq!(rt; loop_pattern.edge_count(), 1);
-    Ok(())
-}
-
-#[test]
-fn is_spent_by_a_refusal(rt: HostRuntime) -> Result<(), Fail> {
-    let alloc = rt.alloc();
-    let limits = Limits::standard();
-    assert!(rt; limits.fair());
-    let mut reader = PatternReader::new(alloc, &limits);
-    assert!(rt; !reader.is_spent());
-    let name = part(&rt, alloc, Hom("a"))?;
-    assert!(rt; reader.take(1, name)?.is_ok());
-    assert!(rt; !reader.is_spent());
-    let vertex = part(&rt, alloc, Plain(1))?;
-    assert!(rt; reader.take(2, vertex)?.is_err());
-    assert!(rt; reader.is_spent());
-    let none = PatternReader::new(alloc, &limits);
-    match none.finish()? {
-        Ok(patterns) => assert_eq!(rt; patterns.count(), 0),
-        Err(bad) => return Err(Fail::from(bad)),
+    for (lines, wants) in FILES {
+        match read(&rt, rt.alloc(), &Limits::standard(), lines)? {
+            Ok(patterns) => assert!(rt; are_patterns(&patterns, wants)),
+            Err(bad) => return Err(Fail::from(bad)),
+        }
     }
     Ok(())
 }
