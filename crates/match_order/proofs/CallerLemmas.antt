@@ -15,6 +15,7 @@ HangsFrom t u p = (l : TreeLink) × (link_at t u ≡ Some l) × (l.parent ≡ p)
 
 -- ---- joined by a link
 
+-- a child hangs from its parent
 pub child_hangs : (t : QueryTree) (p u : ℕ) → is_child t p u ≡ true → HangsFrom t u p
 child_hangs t p u h = by (link_at t u) refl
   where
@@ -22,6 +23,7 @@ child_hangs t p u h = by (link_at t u) refl
     by None e = let none : is_child t p u ≡ false = rw e refl in cc
     by (Some l) e = let same : is_child t p u ≡ (l.parent == p) = rw e refl in (l, e, eqb-true l.parent p (sym same ∙ h))
 
+-- of two neighbours one hangs from the other
 pub neighbours_joined : (t : QueryTree) (u w : ℕ) → are_neighbours t u w ≡ true → HangsFrom t w u ⊎ HangsFrom t u w
 neighbours_joined t u w h = by (is_child t u w) refl
   where

@@ -15,6 +15,7 @@ use Rattle.match_order.specs.declared.frontier.Frontier.{Frontier}
 
 -- ---- vertex u is placed, and its neighbours below w have it as their anchor
 
+-- the marks while vertex u is placed: the vertices below w have been told
 pub record ArePartMarks (t : QueryTree) (before : List ℕ) (u w : ℕ) (placed : List Bool) (anchors : List (Option ℕ)) : Type 0 where
   pub all : (v : ℕ) → v < length t.links → get_or placed v false ≡ list_any (λ x. x == v) (u ∷ before)
   pub done : (v : ℕ) → v < length t.links → v < w → get_or anchors v None ≡ find (are_neighbours t v) (u ∷ before)
@@ -124,6 +125,7 @@ module _ (t : QueryTree) (before live : List ℕ) (f : Frontier) (marks : AreMar
 
 -- ---- anchors
 
+-- an anchor that is read is the one that is kept
 pub anchor_read : (f : Frontier) (u : ℕ) (o : Option ℕ) → u < length f.anchors.items → o ≡ get_or f.anchors.items u o → anchor_of f u ≡ o
 anchor_read f u o h e = get_or_from_slice_get f.anchors.items u o None (slice_get_read f.anchors.items (length f.anchors.items) u o refl h e)
 

@@ -61,6 +61,7 @@ pub record IsPartOf (t : QueryTree) (o : SearchOrder) : Type 0 where
   pub distinct : AllPairs (λ u w. u ≢ w) (vertices o)
   pub anchored : (j : ℕ) → j < length o.places → IsAnchored t o j
 
+-- the start alone is part of an order
 pub one_vertex : (t : QueryTree) (start : ℕ) → start < length t.links → IsPartOf t (record { start = start; places = [] })
 one_vertex t start h = record {
   inside = all;
@@ -230,6 +231,7 @@ module _ (t : QueryTree) (o : SearchOrder) (done : IsAfter (length t.links) t o)
     anchored = done.part.anchored;
   }
 
+-- in a tree the order has every vertex
 pub search_order_whole : (t : QueryTree) → IsTree t → (start : ℕ) (live : List ℕ) → start < length t.links → IsOrderOf t (search_order t start live)
 search_order_whole t is start live h =
     whole t (search_order t start live)

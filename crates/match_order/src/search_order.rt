@@ -81,7 +81,7 @@ pub fn order(
     ensures order { IfOk result (λ order. order ≡ search_order tree.now start live.now) }
     ensures all { IfOk result (λ order. IsOrderOf tree.now order) }
 {
-    // Its contract tells that every vertex hangs from the root, so that none is left out.
+    // For the proof: every vertex hangs from the root, so that none is left out.
     let _root = tree.root();
     let mut growth = Growth::new(alloc, tree, start)?;
     for _ in 0..tree.vertex_count() {
@@ -116,7 +116,8 @@ impl Growth {
     fn place_next(&mut self, tree: &QueryTree, live: &[u64]) -> Result<(), AllocError>
         requires live { length live.now ≡ length tree.now.links }
         requires marks { AreMarks tree.now (latest_first self.old.order) self.old.frontier }
-        ensures order { IfOk result (λ _. self.new.order ≡ with_place self.old.order (next_place tree.now live.now (latest_first self.old.order))) }
+        ensures order { let next = next_place tree.now live.now (latest_first self.old.order) in
+            IfOk result (λ _. self.new.order ≡ with_place self.old.order next) }
         ensures marks { IfOk result (λ _. AreMarks tree.now (latest_first self.new.order) self.new.frontier) }
     {
         if let Some(place) = self.frontier.next(live) {

@@ -108,6 +108,7 @@ child_at t p i u e =
 pub children-increasing : (t : QueryTree) (p : ℕ) → IsStrictlyIncreasing (children t p)
 children-increasing t p = IsStrictlyIncreasing-filter (is_child t p) (range_with_len 0 (length t.links)) (range-increasing (length t.links))
 
+-- no child stands at two places
 pub child_once : (t : QueryTree) (p i j u : ℕ) → slice_get (children t p) i ≡ Some u → slice_get (children t p) j ≡ Some u → i ≡ j
 child_once t p i j u e f = by (cases_order i j)
   where
@@ -150,6 +151,7 @@ module _ (t : QueryTree) where
     depth_below_within (suc k) u l e h =
         depth_at_link k u l e ∙ ap suc (sym (depth_settles k l.parent (hangs_below t is k u l e h)))
 
+-- the root has depth 0
 pub depth-root : (t : QueryTree) → depth t t.root ≡ 0
 unfolding depth
 depth-root t = depth_at_root t (length t.links) t.root (eq-eqb t.root t.root refl)

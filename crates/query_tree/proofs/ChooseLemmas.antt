@@ -20,6 +20,7 @@ filter_true : (xs : List ℕ) → filter (λ _. true) xs ≡ xs
 filter_true [] = refl
 filter_true (x ∷ xs) = ap (λ l. x ∷ l) (filter_true xs)
 
+-- the first place of the least key
 abbrev pub least_of_all : List ℕ → Option ℕ
 least_of_all edges = least (slice_index edges) (filter (λ _. true) (range_with_len 0 (length edges)))
 
@@ -43,6 +44,7 @@ module _ (q : PatternGraph) (edges vertices : List ℕ) (many : length edges ≡
 abbrev pub ends_in : List ℕ → PatternEdge → Option ℕ
 ends_in vertices e = least (slice_index vertices) (filter (λ u. u == e.tail || u == e.head) (range_with_len 0 (length vertices)))
 
+-- an edge has an end
 pub some_end : (vertices : List ℕ) (e : PatternEdge) → e.tail < length vertices → (o : Option ℕ) → o ≡ ends_in vertices e → is_some o ≡ true
 some_end vertices e inside (Some u) is = refl
 some_end vertices e inside None is =
@@ -53,6 +55,7 @@ some_end vertices e inside None is =
 
 -- ---- the steps that are left
 
+-- one step less is left
 pub left_more : (q : PatternGraph) (cards : List ℕ) (n k : ℕ) (t s : QueryTree) → k < n → s ≡ next_tree q cards t → tree_after (n - (k + 1)) q cards s ≡ tree_after (n - k) q cards t
 left_more q cards n k t s h e =
     ap (tree_after (n - (k + 1)) q cards) e ∙ sym (ap (λ j. tree_after j q cards t) (suc_left n k h))
@@ -60,15 +63,18 @@ left_more q cards n k t s h e =
     suc_left : (m j : ℕ) → j < m → m - j ≡ suc (m - (j + 1))
     suc_left m j l = omega arith
 
+-- no step is left
 pub left_none : (q : PatternGraph) (cards : List ℕ) (n k : ℕ) (t s : QueryTree) → n ≤ k → tree_after (n - k) q cards t ≡ s → t ≡ s
 left_none q cards n k t s h e = sym (ap (λ j. tree_after j q cards t) (none_left n k h)) ∙ e
   where
     none_left : (m j : ℕ) → m ≤ j → m - j ≡ 0
     none_left m j l = omega arith
 
+-- what is chosen is a tree of the pattern
 pub chosen_belongs : (q : PatternGraph) → IsPattern q → (edges vertices : List ℕ) (t : QueryTree) → t ≡ tree_for q edges vertices → BelongsTo q t
 chosen_belongs q is edges vertices t e = subst (BelongsTo q) (sym e) (tree_belongs q is edges vertices)
 
+-- and so is what a call answers
 pub ok_belongs : (q : PatternGraph) (g : QueryTree) (r : Result QueryTree AllocError) → BelongsTo q g → IfOk r (λ t. t ≡ g) → IfOk r (λ t. BelongsTo q t)
 ok_belongs q g (Ok t) b e = subst (BelongsTo q) (sym e) b
 ok_belongs q g (Err x) b e = tt

@@ -28,6 +28,7 @@ AllByRecursion-at P [] i d a h = absurd (omega arith)
 AllByRecursion-at P (x ∷ xs) zero d a h = a.0
 AllByRecursion-at P (x ∷ xs) (suc i) d a h = AllByRecursion-at P xs i d a.1 (omega arith)
 
+-- both ends of an edge are vertices
 pub edge_ends : (q : PatternGraph) → IsPattern q → (i : ℕ) → i < length q.edges → HasEnds (vertex_count q) (edge_at q i)
 edge_ends q is i h = AllByRecursion-at (HasEnds (vertex_count q)) q.edges i (record { tail = 0; label = []; head = 0 }) is.ends h
 
@@ -134,6 +135,7 @@ module _ (q : PatternGraph) (k : ℕ) (t : QueryTree) (old : IsGrowing q k t) wh
 
 -- ---- all steps
 
+-- growing stays growing, one vertex more at each step
 pub after_growing : (q : PatternGraph) (is : IsPattern q) (cards : List ℕ) (j k : ℕ) (t : QueryTree) → k + j ≤ vertex_count q → IsGrowing q k t → IsGrowing q (k + j) (tree_after j q cards t)
 after_growing q is cards zero k t few g = subst (λ n. IsGrowing q n t) (omega arith) g
 after_growing q is cards (suc j) k t few g =
@@ -189,6 +191,7 @@ belongs q t g = record {
   links = g.links;
 }
 
+-- the tree of the definition is a tree of the pattern
 pub tree_belongs : (q : PatternGraph) → IsPattern q → (edges vertices : List ℕ) → BelongsTo q (tree_for q edges vertices)
 tree_belongs q is edges vertices =
     belongs q (tree_for q edges vertices)

@@ -37,6 +37,7 @@ module _ (t : QueryTree) where
 
 -- ---- vertex c, which is not placed, gets the link l
 
+-- the tree with one link more
 abbrev pub hung_from : QueryTree → ℕ → TreeLink → QueryTree
 hung_from t c l = record t { links = set t.links c (Some l) }
 

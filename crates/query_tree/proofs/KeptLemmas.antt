@@ -14,14 +14,17 @@ use Rattle.flux_model.specs.Tree.{QueryTree, link_at, is_child, children}
 use Rattle.flux_model.specs.declared.tree.TreeLink.{TreeLink}
 use Rattle.query_tree.proofs.CallerLemmas.{link_within, is_child_of}
 
+-- the lists as they are seen
 abbrev pub items_of : List (Vec ℕ Global) → List (List ℕ)
 items_of lists = map (λ (v : Vec ℕ Global). v.items) lists
 
 -- ---- a list for each vertex
 
+-- there are as many lists as numbers
 pub lists_count : (f : ℕ → List ℕ) (lists : List (Vec ℕ Global)) (n : ℕ) → items_of lists ≡ map f (range_with_len 0 n) → length lists ≡ n
 lists_count f lists n e = sym (length-map lists (λ (v : Vec ℕ Global). v.items)) ∙ ap length e ∙ length-map-range_with_len f 0 n
 
+-- the list at a number is that of the number
 pub list_at : (f : ℕ → List ℕ) (lists : List (Vec ℕ Global)) (n u : ℕ) (v : Vec ℕ Global) → items_of lists ≡ map f (range_with_len 0 n) → u < n → v ≡ get_or lists u v → v.items ≡ f u
 list_at f lists n u v e h at =
     ap (λ (w : Vec ℕ Global). w.items) at
@@ -29,6 +32,7 @@ list_at f lists n u v e h at =
     ∙ ap (λ (l : List (List ℕ)). get_or l u []) e
     ∙ get_or-map-range_with_len f 0 n u u [] h (omega arith)
 
+-- one list more
 pub lists_more : (f : ℕ → List ℕ) (lists more : List (Vec ℕ Global)) (v : Vec ℕ Global) (u : ℕ) → items_of lists ≡ map f (range_with_len 0 u) → v.items ≡ f u → more ≡ lists ++ v ∷ [] → items_of more ≡ map f (range_with_len 0 (u + 1))
 lists_more f lists more v u e is pushed =
     ap items_of pushed
@@ -39,6 +43,7 @@ lists_more f lists more v u e is pushed =
 
 -- ---- the place of a number
 
+-- a number that is there has a place
 pub place_within : (xs : List ℕ) (u : ℕ) → list_any (λ v. v == u) xs ≡ true → (i : ℕ) × (position (λ v. v == u) xs ≡ Some i) × (slice_get xs i ≡ Some u)
 place_within xs u h = by (Any-from_list_any (λ v. v == u) xs h) (cases_lt (position_or_len (λ v. v == u) xs) (length xs))
   where
@@ -72,6 +77,7 @@ child_place t u l e =
 pub read_link : (s t : QueryTree) (u : ℕ) (o : Option TreeLink) (l : TreeLink) → s ≡ t → o ≡ link_at s u → o ≡ Some l → link_at t u ≡ Some l
 read_link s t u o l same read is = sym (ap (λ (r : QueryTree). link_at r u) same) ∙ sym read ∙ is
 
+-- a vertex stands among the children of its parent at its number
 pub child_numbered : (t : QueryTree) (u : ℕ) (l : TreeLink) (r : ℕ) → link_at t u ≡ Some l → position (λ v. v == u) (children t l.parent) ≡ Some r → MatchOption (link_at t u) ⊥ (λ link. slice_get (children t link.parent) r ≡ Some u)
 child_numbered t u l r e p =
     let place = child_place t u l e in

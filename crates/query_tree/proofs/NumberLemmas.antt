@@ -7,15 +7,18 @@ use Rattle.std.proofs.lemmas.Bool.{cases_eq}
 
 -- ---- one number more
 
+-- the numbers below n + 1 that pass: those below n, and maybe n
 pub numbers_more : (p : ℕ → Bool) (n : ℕ) → filter p (range_with_len 0 (n + 1)) ≡ filter p (range_with_len 0 n) ++ cond (p n) (n ∷ []) []
 numbers_more p n =
     sym (ap (filter p) (map-id (range_with_len 0 (n + 1))))
     ∙ filter_of_map_range_with_len_more p (λ k. k) 0 n n (omega arith)
     ∙ ap (λ (l : List ℕ). filter p l ++ cond (p n) (n ∷ []) []) (map-id (range_with_len 0 n))
 
+-- where n passes
 pub numbers_more_yes : (p : ℕ → Bool) (n : ℕ) → p n ≡ true → filter p (range_with_len 0 (n + 1)) ≡ filter p (range_with_len 0 n) ++ n ∷ []
 numbers_more_yes p n e = numbers_more p n ∙ ap (λ b. filter p (range_with_len 0 n) ++ cond b (n ∷ []) []) e
 
+-- where it does not
 pub numbers_more_no : (p : ℕ → Bool) (n : ℕ) → p n ≡ false → filter p (range_with_len 0 (n + 1)) ≡ filter p (range_with_len 0 n)
 numbers_more_no p n e = numbers_more p n ∙ ap (λ b. filter p (range_with_len 0 n) ++ cond b (n ∷ []) []) e ∙ simp append-nil
 
@@ -23,6 +26,7 @@ numbers_more_no p n e = numbers_more p n ∙ ap (λ b. filter p (range_with_len 
 pub numbers_pushed : (p : ℕ → Bool) (n : ℕ) (old new : List ℕ) → old ≡ filter p (range_with_len 0 n) → p n ≡ true → new ≡ old ++ n ∷ [] → new ≡ filter p (range_with_len 0 (n + 1))
 numbers_pushed p n old new is e pushed = pushed ∙ ap (λ (l : List ℕ). l ++ n ∷ []) is ∙ sym (numbers_more_yes p n e)
 
+-- a number that does not pass changes nothing
 pub numbers_kept : (p : ℕ → Bool) (n : ℕ) (old new : List ℕ) → old ≡ filter p (range_with_len 0 n) → p n ≡ false → new ≡ old → new ≡ filter p (range_with_len 0 (n + 1))
 numbers_kept p n old new is e kept = kept ∙ is ∙ sym (numbers_more_no p n e)
 

@@ -15,6 +15,7 @@ use Rattle.flux_model.specs.Tree.{QueryTree, edge_at, is_placed, crosses, crossi
 use Rattle.flux_model.specs.declared.pattern.PatternEdge.{PatternEdge}
 use Rattle.query_tree.proofs.NumberLemmas.{no_number, all_numbers}
 
+-- exactly one of the two
 pub cross_cases : (a b : Bool) → a && not b || not a && b ≡ true → ((a ≡ true) × (b ≡ false)) ⊎ ((a ≡ false) × (b ≡ true))
 cross_cases true true h = cc
 cross_cases true false h = inl (refl, refl)

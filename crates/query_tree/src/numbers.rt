@@ -11,7 +11,8 @@ use std::alloc::{AllocError, Global};
 /// The numbers are the places in `keys`, counted from 0.
 pub fn least_by<P: Fn(usize) -> bool>(keys: &[u64], passes: P) -> Option<usize>
     requires { (k : ℕ) → k < length keys.now → P.pre passes k }
-    ensures least { (test : ℕ → Bool) → ((k : ℕ) (b : Bool) → k < length keys.now → P.post passes k b → b ≡ test k) → result ≡ least (slice_index keys.now) (filter test (range_with_len 0 (length keys.now))) }
+    ensures least { (test : ℕ → Bool) → ((k : ℕ) (b : Bool) → k < length keys.now → P.post passes k b → b ≡ test k)
+        → result ≡ least (slice_index keys.now) (filter test (range_with_len 0 (length keys.now))) }
     ensures within { IfSome result (λ i. i < length keys.now) }
 {
     let mut least = None;
@@ -43,7 +44,8 @@ pub(crate) fn numbers_where<P: Fn(usize) -> bool>(
     passes: P,
 ) -> Result<Vec<usize>, AllocError>
     requires { (k : ℕ) → k < count → P.pre passes k }
-    ensures { IfOk result (λ numbers. (test : ℕ → Bool) → ((k : ℕ) (b : Bool) → k < count → P.post passes k b → b ≡ test k) → numbers.items ≡ filter test (range_with_len 0 count)) }
+    ensures { IfOk result (λ numbers. (test : ℕ → Bool) → ((k : ℕ) (b : Bool) → k < count → P.post passes k b → b ≡ test k)
+        → numbers.items ≡ filter test (range_with_len 0 count)) }
 {
     let mut numbers = Vec::new(alloc);
     for i in 0..count {

@@ -1,5 +1,6 @@
 //! `QueryTree`: the spanning tree of a pattern.
-ghost use Rattle.std.specs.Prelude.{◌≡◌, ◌≢◌, ◌<◌, ◌↔◌, Some, None, IfOk, MatchOption, length, slice_get, slice_index};
+ghost use Rattle.std.specs.Prelude.{◌≡◌, ◌≢◌, ◌<◌, ◌↔◌, Some, None, IfOk, MatchOption};
+ghost use Rattle.std.specs.Prelude.{length, slice_get, slice_index};
 ghost use Rattle.flux_model.specs.Pattern.{HasEnds, vertex_count};
 ghost use Rattle.flux_model.specs.Tree.{link_at, is_child, children, non_tree, root_of, tree_for, IsTree, BelongsTo};
 ghost use Rattle.query_tree.specs.Choice.{lower_end};
