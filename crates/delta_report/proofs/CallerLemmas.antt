@@ -31,6 +31,7 @@ deltas_text-with_delta k patterns d ds = by d.gained d.lost refl refl
     by [] (m ∷ ms) e f = rw (e, f, lt-ltb 0 (length (m ∷ ms)) (omega arith)) refl
     by (m ∷ ms) lost e f = rw (e, f, lt-ltb 0 (length ((m ∷ ms) ++ lost)) (omega arith)) refl
 
+-- the name of the pattern behind a front part
 pub name_here : (front : List PatternGraph) (q : PatternGraph) (qs : List PatternGraph) → name_at (front ++ q ∷ qs) (length front) ≡ q.name
 name_here front q qs =
     let within : length front < length (front ++ q ∷ qs) = omega (arith, length-append front (q ∷ qs)) in
@@ -64,9 +65,11 @@ change_deltas-append i g h (q ∷ qs) rs =
     ∙ with_delta-append d (change_deltas (suc i) g h qs) (change_deltas (suc i + length qs) g h rs)
     ∙ ap (λ n. with_delta d (change_deltas (suc i) g h qs) ++ change_deltas n g h rs) number
 
+-- a delta with a map stays
 pub with_delta-map : (d : Delta) (ds : List Delta) → HasMap d → with_delta d ds ≡ d ∷ ds
 with_delta-map d ds m = rw (lt-ltb 0 (length (d.gained ++ d.lost)) m) refl
 
+-- a delta without a map is left out
 pub with_delta-none : (d : Delta) (ds : List Delta) → length d.gained ≡ 0 → length d.lost ≡ 0 → with_delta d ds ≡ ds
 with_delta-none d ds e f = rw (le-ltb 0 (length (d.gained ++ d.lost)) (omega (arith, length-append d.gained d.lost))) refl
 
@@ -75,6 +78,7 @@ with_delta-none d ds e f = rw (le-ltb 0 (length (d.gained ++ d.lost)) (omega (ar
 abbrev IsPatternBelow : ℕ → Delta → Type 0
 IsPatternBelow n d = d.pattern < n
 
+-- what is so of a delta and of those behind it is so of all that stay
 pub with_delta-all : (P : Delta → Type 0) (d : Delta) (ds : List Delta) → P d → AllByRecursion P ds → AllByRecursion P (with_delta d ds)
 with_delta-all P d ds p a = by (nat_lt 0 (length (d.gained ++ d.lost)))
   where
@@ -87,6 +91,7 @@ patterns_below n g h [] i e = tt
 patterns_below n g h (q ∷ qs) i e =
     with_delta-all (IsPatternBelow n) (record { pattern = i; gained = gained q g h; lost = lost q g h }) (change_deltas (suc i) g h qs) (omega arith) (patterns_below n g h qs (suc i) (omega arith))
 
+-- each delta of a change is of one of the patterns
 pub change_deltas-have_patterns : (g h : Graph) (patterns : List PatternGraph) → HavePatterns (length patterns) (change_deltas 0 g h patterns)
 change_deltas-have_patterns g h patterns =
     All-from_recursion (IsPatternBelow (length patterns)) (change_deltas 0 g h patterns) (patterns_below (length patterns) g h patterns 0 (omega arith))

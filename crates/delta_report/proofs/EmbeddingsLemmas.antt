@@ -62,6 +62,7 @@ strict_each ms [] s t = tt
 strict_each ms (v ∷ vs) s t =
     strict_append map_cmp (map (λ m. v ∷ m) ms) (flat_map (λ v. map (λ m. v ∷ m) ms) vs) (strict_in_front v ms s) (strict_each ms vs s t.1) (all_above_each v ms ms vs t.0)
 
+-- all lists of ascending ids are strictly ascending
 pub id_lists-strict : (vs : List ℕ) (n : ℕ) → IsStrictlySortedBy nat_cmp vs → IsStrictlySortedBy map_cmp (id_lists vs n)
 unfolding IsStrictlySortedBy
 id_lists-strict vs zero s = (tt, tt)
@@ -76,6 +77,7 @@ ids-ascending (v ∷ w ∷ vs) a =
     let parts = both nat_cmp nat_cmp_total (is_lt (nat_cmp v.id w.id)) (is_ascending vertex_cmp (w ∷ vs)) a in
     rw parts.0 (ids-ascending (w ∷ vs) parts.1)
 
+-- and so are the embeddings among them
 pub embeddings-strict : (q : PatternGraph) (g : Graph) → IsTrue (is_ascending vertex_cmp g.vertices) → IsStrictlySortedBy map_cmp (embeddings q g)
 embeddings-strict q g a =
     IsStrictlySortedBy-filter map_cmp (is_embedding q g) (id_lists (ids g) (vertex_count q))
@@ -85,6 +87,7 @@ embeddings-strict q g a =
 pub embeddings-ascending : (q : PatternGraph) (g : Graph) → IsTrue (is_ascending vertex_cmp g.vertices) → IsTrue (is_ascending (slice_cmp nat_cmp) (embeddings q g))
 embeddings-ascending q g a = ascending_from_strict map_cmp nat_list_cmp_total (embeddings q g) (embeddings-strict q g a)
 
+-- so the embeddings stand in the order that a report wants
 pub embeddings-sorted : (q : PatternGraph) (g : Graph) → IsTrue (is_ascending vertex_cmp g.vertices) → IsSorted (slice_cmp nat_cmp) (embeddings q g)
 embeddings-sorted q g a = sorted_from_strict map_cmp nat_list_cmp_total (embeddings q g) (embeddings-strict q g a)
 

@@ -25,6 +25,7 @@ same_map_from_Equal (x ∷ xs) (y ∷ ys) e = by (nat_cmp x y) refl e (same_map_
     by Equal q e rest = let first : x ≡ y = ranked x y Equal (sym q) in let others = rest e in λ i. first i ∷ others i
     by Greater q e rest = cc
 
+-- one list of maps has one ascending order
 pub sorted_maps_unique : (xs ys zs : List (List ℕ)) → IsPermutation xs ys → IsPermutation xs zs → IsSorted (slice_cmp nat_cmp) ys → IsSorted (slice_cmp nat_cmp) zs → ys ≡ zs
 sorted_maps_unique = sorted_form_unique (slice_cmp nat_cmp) nat_list_cmp_total same_map_from_Equal
 
@@ -37,6 +38,7 @@ sorted_delta_unique d e f p q =
     let lost : e.lost ≡ f.lost = sorted_maps_unique _ _ _ p.same.lost q.same.lost p.order.lost q.order.lost in
     λ i. record { pattern = pattern i; gained = gained i; lost = lost i }
 
+-- deltas have one sorted form
 pub AreSorted-unique : (ds es fs : List Delta) → AreSorted ds es → AreSorted ds fs → es ≡ fs
 AreSorted-unique [] [] [] p q = refl
 AreSorted-unique [] [] (f ∷ fs) p q = absurd q
@@ -52,6 +54,7 @@ AreSorted-unique (d ∷ ds) (e ∷ es) (f ∷ fs) p q =
 pub each_sorted_form : (P : List Delta → Type 0) (ds es : List Delta) → AreSorted ds es → P es → (sorted : List Delta) → AreSorted ds sorted → P sorted
 each_sorted_form P ds es s p sorted t = subst P (AreSorted-unique ds es sorted s t) p
 
+-- what holds at each place holds of the lists
 pub AreReordered-from_places : (ds es : List Delta) → length es ≡ length ds → ((k : ℕ) (d : Delta) → k < length ds → IsReordered (get_or ds k d) (get_or es k d)) → AreReordered ds es
 AreReordered-from_places [] [] e r = tt
 AreReordered-from_places [] (f ∷ fs) e r = cc
@@ -59,6 +62,7 @@ AreReordered-from_places (d ∷ ds) [] e r = cc
 AreReordered-from_places (d ∷ ds) (f ∷ fs) e r =
     (r 0 d (omega arith), AreReordered-from_places ds fs (omega arith) (λ k d l. r (suc k) d (omega arith)))
 
+-- the same with the order of each delta
 pub AreSorted-from_places : (ds es : List Delta) → length es ≡ length ds → ((k : ℕ) (d : Delta) → k < length ds → IsReordered (get_or ds k d) (get_or es k d)) → ((k : ℕ) (d : Delta) → k < length ds → IsInOrder (get_or es k d)) → AreSorted ds es
 AreSorted-from_places [] [] e r s = tt
 AreSorted-from_places [] (f ∷ fs) e r s = cc

@@ -25,6 +25,7 @@ triangle = record {
   connected = refl;
 }
 
+-- what the test builds is the triangle
 pub is_triangle : (name : List ℕ) (labels : List (List (List ℕ))) (e f h : PatternEdge) (edges : List PatternEdge) → name ≡ codes "tri" → labels ≡ [] ∷ [] ∷ [] ∷ [] → e ≡ record { tail = 0; label = codes "r"; head = 1 } → f ≡ record { tail = 1; label = codes "r"; head = 2 } → h ≡ record { tail = 2; label = codes "r"; head = 0 } → edges ≡ e ∷ f ∷ h ∷ [] → IsPattern (record { name = name; mode = Hom; labels = labels; edges = edges })
 unfolding edge
 is_triangle name labels e f h edges n l a b c d = rw (n, l, d, a, b, c) triangle

@@ -1,11 +1,10 @@
 //! Lines, worked out by hand.
 ghost use Rattle.std.specs.Prelude.{◌≡◌, length, codes, IfOk};
-ghost use Rattle.flux_model.specs.Deltas.{HasMap};
+ghost use Rattle.delta_report.specs.Block.{HavePatterns};
 
 use crate::{write_answers, write_deltas, write_end, write_refusal};
 use flux_model::{Code, Delta, Deltas, Labels, Maps, Mode, Pattern, PatternEdge, Patterns, Text};
 use std::alloc::{AllocError, Global};
-use std::process::Abort;
 use std::test::Fail;
 
 fn edge(alloc: Global, tail: usize, head: usize) -> Result<PatternEdge, AllocError>
@@ -41,6 +40,13 @@ fn two_patterns(alloc: Global) -> Result<Patterns, AllocError>
     Ok(Patterns::new(vec![in alloc; triangle(alloc)?, dot(alloc)?]?))
 }
 
+/// The maps that a pattern gained, and those that it lost.
+#[derive(Clone, Copy)]
+struct Change {
+    gained: &'static [&'static [u32]],
+    lost: &'static [&'static [u32]],
+}
+
 fn maps_of(alloc: Global, lists: &[&[u32]]) -> Result<Maps, AllocError> {
     let mut maps = Maps::new(alloc);
     for ids in lists {
@@ -49,17 +55,71 @@ fn maps_of(alloc: Global, lists: &[&[u32]]) -> Result<Maps, AllocError> {
     Ok(maps)
 }
 
-fn delta_of(rt: &impl Abort, pattern: usize, gained: Maps, lost: Maps) -> Delta
-    ensures pattern { result.pattern ≡ pattern }
-    ensures map { HasMap result }
+fn delta_of(alloc: Global, pattern: usize, change: &Change) -> Result<Delta, AllocError>
+    ensures { IfOk result (λ delta. delta.pattern ≡ pattern) }
 {
-    assert!(rt; gained.len() > 0 || lost.len() > 0);
-    Delta {
+    let gained = maps_of(alloc, change.gained)?;
+    let lost = maps_of(alloc, change.lost)?;
+    Ok(Delta {
         pattern,
         gained,
         lost,
-    }
+    })
 }
+
+/// What the two patterns gained and lost.
+fn deltas_of(alloc: Global, tri: &Change, dot: &Change) -> Result<Deltas, AllocError>
+    ensures { IfOk result (λ deltas. HavePatterns 2 deltas) }
+{
+    let mut deltas = Deltas::new(alloc);
+    deltas.add_unless_empty(delta_of(alloc, 0, tri)?)?;
+    deltas.add_unless_empty(delta_of(alloc, 1, dot)?)?;
+    Ok(deltas)
+}
+
+const NOTHING: Change = Change {
+    gained: &[],
+    lost: &[],
+};
+
+/// What `tri` gains where `v 1 / v 2 / v 3 / e 1 2 r / e 2 3 r / e 3 1 r` is all that there is.
+const RING: Change = Change {
+    gained: &[&[3, 1, 2], &[1, 2, 3], &[2, 3, 1]],
+    lost: &[],
+};
+
+const BLOCKS: [(u64, Change, &[u8]); 3] = [
+    (1, NOTHING, b""),
+    (1, RING, b"+ 1 tri 1 2 3\n+ 1 tri 2 3 1\n+ 1 tri 3 1 2\n"),
+    (
+        12,
+        Change {
+            gained: &[&[10, 9, 8]],
+            lost: &[&[4294967295, 0, 7], &[5, 6, 7]],
+        },
+        b"+ 12 tri 10 9 8\n- 12 tri 5 6 7\n- 12 tri 4294967295 0 7\n",
+    ),
+];
+
+const ANSWERS: [(Change, Change, &[u8]); 3] = [
+    (NOTHING, NOTHING, b"= 0\n"),
+    (
+        RING,
+        NOTHING,
+        b"m tri 1 2 3\nm tri 2 3 1\nm tri 3 1 2\n= 3\n",
+    ),
+    (
+        Change {
+            gained: &[&[9, 10, 8], &[9, 9, 9]],
+            lost: &[],
+        },
+        Change {
+            gained: &[&[10], &[8], &[9]],
+            lost: &[&[7]],
+        },
+        b"m tri 9 9 9\nm tri 9 10 8\nm dot 8\nm dot 9\nm dot 10\n= 5\n",
+    ),
+];
 
 #[test]
 fn single_lines(rt: HostRuntime) -> Result<(), Fail> {
@@ -74,67 +134,24 @@ fn single_lines(rt: HostRuntime) -> Result<(), Fail> {
 
 #[test]
 fn blocks(rt: HostRuntime) -> Result<(), Fail> {
-    let alloc = rt.alloc();
-    let patterns = two_patterns(alloc)?;
-    let mut out = Vec::new(alloc);
-    let mut deltas = Deltas::new(alloc);
-    write_deltas(1, &patterns, &mut deltas, &mut out)?;
-    assert!(rt; out.is_empty());
-    let ring = maps_of(alloc, &[&[3, 1, 2], &[1, 2, 3], &[2, 3, 1]])?;
-    deltas.add(delta_of(&rt, 0, ring, Maps::new(alloc)))?;
-    write_deltas(1, &patterns, &mut deltas, &mut out)?;
-    assert_eq!(rt;
-        out.as_slice(),
-        b"+ 1 tri 1 2 3\n+ 1 tri 2 3 1\n+ 1 tri 3 1 2\n".as_slice()
-    );
-    out.clear();
-    let mut deltas = Deltas::new(alloc);
-    let gained = maps_of(alloc, &[&[10, 9, 8]])?;
-    let lost = maps_of(alloc, &[&[4294967295, 0, 7], &[5, 6, 7]])?;
-    deltas.add(delta_of(&rt, 0, gained, lost))?;
-    write_deltas(12, &patterns, &mut deltas, &mut out)?;
-    assert_eq!(rt;
-        out.as_slice(),
-        b"+ 12 tri 10 9 8\n- 12 tri 5 6 7\n- 12 tri 4294967295 0 7\n".as_slice()
-    );
-    Ok(())
-}
-
-/// In the graph `v 1 / v 2 / v 3 / e 1 2 r / e 2 3 r / e 3 1 r`.
-#[test]
-fn answers_of_a_ring(rt: HostRuntime) -> Result<(), Fail> {
-    let alloc = rt.alloc();
-    let patterns = Patterns::new(vec![in alloc; triangle(alloc)?]?);
-    let mut out = Vec::new(alloc);
-    let mut deltas = Deltas::new(alloc);
-    write_answers(&patterns, &mut deltas, &mut out)?;
-    assert_eq!(rt; out.as_slice(), b"= 0\n".as_slice());
-    out.clear();
-    let ring = maps_of(alloc, &[&[3, 1, 2], &[1, 2, 3], &[2, 3, 1]])?;
-    deltas.add(delta_of(&rt, 0, ring, Maps::new(alloc)))?;
-    write_answers(&patterns, &mut deltas, &mut out)?;
-    assert_eq!(rt;
-        out.as_slice(),
-        b"m tri 1 2 3\nm tri 2 3 1\nm tri 3 1 2\n= 3\n".as_slice()
-    );
+    let patterns = two_patterns(rt.alloc())?;
+    for (number, tri, text) in &BLOCKS {
+        let mut deltas = deltas_of(rt.alloc(), tri, &NOTHING)?;
+        let mut out = Vec::new(rt.alloc());
+        write_deltas(*number, &patterns, &mut deltas, &mut out)?;
+        assert_eq!(rt; out.as_slice(), *text);
+    }
     Ok(())
 }
 
 #[test]
-fn answers_in_the_order_of_the_patterns(rt: HostRuntime) -> Result<(), Fail> {
-    let alloc = rt.alloc();
-    let patterns = two_patterns(alloc)?;
-    let mut out = Vec::new(alloc);
-    let mut deltas = Deltas::new(alloc);
-    let triples = maps_of(alloc, &[&[9, 10, 8], &[9, 9, 9]])?;
-    deltas.add(delta_of(&rt, 0, triples, Maps::new(alloc)))?;
-    let singles = maps_of(alloc, &[&[10], &[8], &[9]])?;
-    let lost = maps_of(alloc, &[&[7]])?;
-    deltas.add(delta_of(&rt, 1, singles, lost))?;
-    write_answers(&patterns, &mut deltas, &mut out)?;
-    assert_eq!(rt;
-        out.as_slice(),
-        b"m tri 9 9 9\nm tri 9 10 8\nm dot 8\nm dot 9\nm dot 10\n= 5\n".as_slice()
-    );
+fn answers(rt: HostRuntime) -> Result<(), Fail> {
+    let patterns = two_patterns(rt.alloc())?;
+    for (tri, dot, text) in &ANSWERS {
+        let mut deltas = deltas_of(rt.alloc(), tri, dot)?;
+        let mut out = Vec::new(rt.alloc());
+        write_answers(&patterns, &mut deltas, &mut out)?;
+        assert_eq!(rt; out.as_slice(), *text);
+    }
     Ok(())
 }
