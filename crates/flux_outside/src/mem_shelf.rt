@@ -1,5 +1,6 @@
 // Files in memory.
-ghost use Rattle.std.specs.Prelude.{◌≡◌, ◌≢◌, ℕ, ◌≤◌, ◌<◌, ◌↔◌, [], ◌∷◌, ◌++◌, List, length, Some, IfOk, IfSome, IsErr, OnOk, OnErr, Contains, MatchOption, None};
+ghost use Rattle.std.specs.Prelude.{◌≡◌, ◌≢◌, ℕ, ◌≤◌, ◌<◌, ◌↔◌, [], ◌∷◌, ◌++◌, List, length, Contains};
+ghost use Rattle.std.specs.Prelude.{Some, None, IfOk, IfSome, IsErr, OnOk, OnErr, MatchOption};
 ghost use Rattle.flux_outside.specs.Causes.{HasCause, next_count};
 ghost use Rattle.flux_outside.specs.Told.{ShelfReads};
 ghost use Rattle.flux_outside.specs.MemShelf.{bytes_of, place_from};

@@ -3,7 +3,7 @@ ghost use Rattle.std.specs.Prelude.{◌≡◌, ◌↔◌, length, min, Some, IfO
 ghost use Rattle.std.specs.Io.{ReadsAtMost};
 ghost use Rattle.std.specs.Io.KnownBytes.{ReadConsumes};
 ghost use Rattle.flux_outside.specs.Causes.{HasCause, next_count};
-ghost use Rattle.flux_outside.specs.MemSource.{cut_at};
+ghost use Rattle.flux_outside.specs.MemSource.{Feed, cut_at};
 
 use crate::buffers::copy_front;
 use crate::counts::count_fault;
@@ -28,7 +28,8 @@ impl Model for MemSource {
 
     ghost Value = { Feed };
 
-    ghost view = { λ s. record { left = drop s.at s.bytes.items; call = s.call; cuts = s.cuts.items; failing = s.failing.items; faults = s.faults } };
+    ghost view = { λ s. let left = drop s.at s.bytes.items in
+        record { left = left; call = s.call; cuts = s.cuts.items; failing = s.failing.items; faults = s.faults } };
 
     ghost invariant = { λ s. (s.at ≤ vec_len s.bytes) × (s.faults < 2 ^ 64) };
 }
@@ -45,7 +46,8 @@ impl MemSource {
         cuts: &[u64],
         failing: &[u64],
     ) -> Result<MemSource, AllocError>
-        ensures { IfOk result (λ source. source ≡ record { left = bytes.now; call = 0; cuts = cuts.now; failing = failing.now; faults = 0 }) }
+        ensures { let fresh : Feed = record { left = bytes.now; call = 0; cuts = cuts.now; failing = failing.now; faults = 0 } in
+            IfOk result (λ source. source ≡ fresh) }
     {
         let bytes = bytes.to_vec(alloc)?;
         let cuts = cuts.to_vec(alloc)?;

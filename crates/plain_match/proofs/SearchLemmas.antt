@@ -12,14 +12,17 @@ use Rattle.plain_match.proofs.NamesLemmas.{rest_from}
 
 -- ---- one place of a map
 
+-- whether all from here on fit: this one, and those behind it
 pub fit_step : (g : Graph) (ls : List (List (List ℕ))) (m : List ℕ) (u : ℕ) (labels : List (List ℕ)) → slice_get ls u ≡ Some labels → u < length m → pointwise (fits_labels g) (drop u ls) (drop u m) ≡ (fits_labels g labels (get_or m u 0) && pointwise (fits_labels g) (drop (u + 1) ls) (drop (u + 1) m))
 fit_step g ls m u labels e h = λ i. pointwise (fits_labels g) (rest_from ls u labels e i) (drop_more m u 0 h i)
 
+-- whether all from here on pass: this one, and those behind it
 pub all_step : {X : Type 0} (p : X → Bool) (xs : List X) (i : ℕ) (x : X) → slice_get xs i ≡ Some x → list_all p (drop i xs) ≡ (p x && list_all p (drop (i + 1) xs))
 all_step p xs i x e = ap (list_all p) (rest_from xs i x e)
 
 -- ---- one more id
 
+-- one id more behind the same ids
 pub push_onto : (xs ys s : List ℕ) (v : ℕ) → s ≡ ys ++ v ∷ [] → ys ≡ xs → s ≡ xs ++ v ∷ []
 push_onto xs ys s v e f = e ∙ ap (λ l. l ++ v ∷ []) f
 

@@ -1,4 +1,4 @@
--- What a graph kept under limits is.
+-- What a `PlainGraph` keeps to.
 use Rattle.flux_model.specs.Graph.{LimitedGraph, IsGraph, IsWithin}
 
 -- a graph that does not pass its limits

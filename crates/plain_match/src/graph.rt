@@ -1,11 +1,14 @@
 //! `PlainGraph`: a graph as two lists.
-ghost use Rattle.std.specs.Prelude.{◌≡◌, ◌≤◌, ◌<◌, ◌==◌, ◌&&◌, ◌||◌, not, filter, nat_le, nat_lt, Some, slice_get, List, ℕ, [], ◌∷◌, length, insert, Ok, Err, IsTrue, IfOk, OnOk, OnErr, IfErr, true, false};
+ghost use Rattle.std.specs.Prelude.{◌≡◌, ◌≤◌, ◌<◌, ◌==◌, ◌&&◌, ◌||◌, not, true, false, nat_le, nat_lt, ℕ};
+ghost use Rattle.std.specs.Prelude.{List, [], ◌∷◌, length, filter, insert, slice_get, Some, Ok, Err, IsTrue, IfOk, OnOk, OnErr, IfErr};
 ghost use Rattle.std.specs.List.{list_any};
 ghost use Rattle.std.specs.Ordering.{is_eq};
 ghost use Rattle.flux_model.specs.Ordered.{is_ascending, is_in, put};
 ghost use Rattle.flux_model.specs.Labels.{is_within};
-ghost use Rattle.flux_model.specs.Graph.{vertex_cmp, triple_cmp, name_count, apply, add_vertex, drop_vertex, add_edge, drop_edge, ids, has_triple};
+ghost use Rattle.flux_model.specs.Graph.{vertex_cmp, triple_cmp, name_count, ids, has_triple};
+ghost use Rattle.flux_model.specs.Graph.{apply, add_vertex, drop_vertex, add_edge, drop_edge};
 ghost use Rattle.flux_model.specs.Pattern.{fits_labels};
+ghost use Rattle.flux_model.specs.declared.graph.Vertex.{Vertex};
 
 use crate::names::Names;
 use flux_model::{Code, Labels, Limits, Text, Triple, Update, Vertex, place};
@@ -22,14 +25,15 @@ pub struct PlainGraph {
 }
 
 impl Model for PlainGraph {
-    ghost use Rattle.flux_model.specs.Graph.{LimitedGraph};
+    ghost use Rattle.flux_model.specs.Graph.{Graph, LimitedGraph};
     ghost use Rattle.plain_match.specs.Limited.{KeepsLimits};
 
     ghost Value = { LimitedGraph };
 
     ghost view = { λ p. record { limits = p.limits; graph = record { vertices = p.vertices.items; triples = p.triples.items } } };
 
-    ghost invariant = { λ p. KeepsLimits (record { limits = p.limits; graph = record { vertices = p.vertices.items; triples = p.triples.items } }) };
+    ghost invariant = { λ p. let graph : Graph = record { vertices = p.vertices.items; triples = p.triples.items } in
+        KeepsLimits (record { limits = p.limits; graph = graph }) };
 }
 
 impl PlainGraph {
@@ -71,8 +75,10 @@ impl PlainGraph {
     }
 
     fn add_vertex(&mut self, id: u32, labels: &Labels) -> Result<Result<(), Code>, AllocError>
-        ensures ok { IfOk result (λ answer. OnOk answer (add_vertex self.old.limits self.old.graph (record { id = id; labels = labels.now }) ≡ Ok self.new.graph)) }
-        ensures refused { IfOk result (λ answer. IfErr answer (λ code. add_vertex self.old.limits self.old.graph (record { id = id; labels = labels.now }) ≡ Err code)) }
+        ensures ok { let after = add_vertex self.old.limits self.old.graph (record { id = id; labels = labels.now }) in
+            IfOk result (λ answer. OnOk answer (after ≡ Ok self.new.graph)) }
+        ensures refused { let after = add_vertex self.old.limits self.old.graph (record { id = id; labels = labels.now }) in
+            IfOk result (λ answer. IfErr answer (λ code. after ≡ Err code)) }
         ensures unchanged { IfOk result (λ answer. OnErr answer (self.new ≡ self.old)) }
         ensures err { OnErr result (self.new ≡ self.old) }
         ensures limits { self.new.limits ≡ self.old.limits }
@@ -213,7 +219,8 @@ fn id_place(vertices: &[Vertex], id: u32) -> Result<usize, usize>
     ensures found { OnOk result (list_any (λ v. v.id == id) vertices.now ≡ true) }
     ensures absent { OnErr result (list_any (λ v. v.id == id) vertices.now ≡ false) }
     ensures within { IfErr result (λ at. at ≤ length vertices.now) }
-    ensures put { IfErr result (λ at. (labels : List (List ℕ)) → insert vertices.now at (record { id = id; labels = labels }) ≡ put vertex_cmp (record { id = id; labels = labels }) vertices.now) }
+    ensures put { IfErr result (λ at. (labels : List (List ℕ)) → let vertex : Vertex = record { id = id; labels = labels } in
+        insert vertices.now at vertex ≡ put vertex_cmp vertex vertices.now) }
 {
     for (i, v) in vertices.iter().enumerate() {
         match id.cmp(&v.id) {
