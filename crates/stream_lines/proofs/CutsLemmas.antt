@@ -40,6 +40,7 @@ Stand-leads n b done (taken line ∷ events) old new at leads =
     subst (λ l. Stand n (b ++ joined events) l new) (append_assoc done (line ∷ []) (taken_lines events))
     (Stand-leads n b (done ++ line ∷ []) events leads.0 new (Stand-taken n b done line old leads.0 at leads.1) leads.2)
 
+-- the law of all cuts
 pub any : AnyCut
 any n events now leads =
     let at = Stand-leads n [] [] events (nothing_yet n) now (record { limit = refl; whole = sym (whole-nil n); rest = rest-nil n }) leads in

@@ -29,6 +29,7 @@ parts-first-suc (x ∷ bs) (suc n) h lt here =
     slice_split-cons_no (λ y. y == 10) x bs (not_true (x == 10) (h 0 (omega arith) (omega arith)))
     ∙ ap (onto_first x) (parts-first-suc bs n (λ k low high. h (suc k) (omega arith) (omega arith)) (omega arith) here)
 
+-- the first byte 10 ends the first part
 pub parts-first : (bs : List ℕ) (n : ℕ) → Nowhere (Passes (is_byte 10) bs) 0 n → n < length bs → Passes (is_byte 10) bs n → parts bs ≡ take n bs ∷ parts (drop (n + 1) bs)
 parts-first bs n h lt here = parts-first-suc bs n h lt here ∙ ap (λ k. take n bs ∷ parts (drop k bs)) (sym (add-one n))
 
@@ -46,6 +47,7 @@ IsOpenPlace-last bs before_len n h lt here =
       open_len = λ before _. ap length (ap (λ l. open_end (before ++ l)) front ∙ ap open_end (sym (append_assoc before (take n bs) (10 ∷ []))) ∙ open_end-end (before ++ take n bs));
     }
 
+-- where no byte is 10, all that was open stays open
 pub IsOpenPlace-none : (bs : List ℕ) (before_len : ℕ) → Nowhere (Passes (is_byte 10) bs) 0 (length bs) → IsOpenPlace bs before_len 0 before_len
 IsOpenPlace-none bs before_len h = record {
   within = omega arith;
@@ -63,6 +65,7 @@ first-longer bs m n le lt e =
     ∙ ap (λ l. l ∷ parts (drop (n + 1) (take m bs) ++ drop m bs)) (sym (take-append-le n (take m bs) (drop m bs) (omega arith)))
     ∙ ap (λ l. take n (take m bs ++ drop m bs) ∷ parts l) (sym (drop-append-le (n + 1) (take m bs) (drop m bs) (omega arith))))
 
+-- the first line of a front part is that of all bytes
 pub first-further : (bs : List ℕ) (m n : ℕ) → m ≤ length bs → IsFirstLen (take m bs) (Some n) → IsFirstLen bs (Some n)
 first-further bs m n le h = (omega (arith, h.0, length-take m bs), first-longer bs m n le h.0 h.1)
 
@@ -74,12 +77,14 @@ first-shifted bs m n one e =
     (ap (λ l. l ∷ parts (drop (n + 1) (drop m bs))) (sym (take-add m n bs))
     ∙ ap (λ l. take (m + n) bs ∷ parts l) (drop-drop (n + 1) m bs ∙ ap (λ k. drop k bs) (omega arith)))
 
+-- and where a front part ends no line, it is found behind it
 pub first-found : (bs more : List ℕ) (m n : ℕ) → m ≤ length bs → more ≡ drop m bs → parts (take m bs) ≡ take m bs ∷ []
     → IsFirstLen more (Some n) → IsFirstLen bs (Some (m + n))
 first-found bs more m n le e one h =
     let found = subst (λ l. IsFirstLen l (Some n)) e h in
     (omega (arith, found.0, length-drop m bs), first-shifted bs m n one found.1)
 
+-- no line where neither part ends one
 pub none-found : (bs more : List ℕ) (m : ℕ) → more ≡ drop m bs → parts (take m bs) ≡ take m bs ∷ [] → parts more ≡ more ∷ [] → parts bs ≡ bs ∷ []
 none-found bs more m e one h =
     ap parts (sym (take-append-drop m bs)) ∙ parts-behind (take m bs) (drop m bs) one

@@ -42,6 +42,7 @@ rest_of-cases n s t q false false e f same =
     let t_more : n + 1 < length (t ++ q) = omega (arith, length-append t q) in
     (rest_of-long n (s ++ q) s_more ∙ sym (rest_of-long n (t ++ q) t_more), line_of-long n (s ++ q) s_more ∙ sym (line_of-long n (t ++ q) t_more))
 
+-- bytes of the same rest have the same rest with more behind them
 pub rest_of-append : (n : ℕ) (s t q : List ℕ) → rest_of n s ≡ rest_of n t → (rest_of n (s ++ q) ≡ rest_of n (t ++ q)) × (line_of n (s ++ q) ≡ line_of n (t ++ q))
 rest_of-append n s t q same = rest_of-cases n s t q (nat_le (length s) (n + 1)) (nat_le (length t) (n + 1)) refl refl same
 
@@ -111,6 +112,7 @@ Stands-open n m left b p one is le e =
       open_len = ap length (open_end-behind b (take m p) front) ∙ grind (arith, length-append (open_end b) (take m p), length-take m p);
     }
 
+-- the bytes of a piece that are kept stand for all of it
 pub Stands-place : (n m before_len place left : ℕ) (b p kept : List ℕ) → IsOpenPlace p before_len place left → before_len ≤ n + 2 → length (open_end b) ≡ before_len
     → m ≡ min (length p - place) (n + 2 - left) → kept ≡ take (place + m) p → Stands n (b ++ p) (b ++ kept) (left + m)
 Stands-place n m before_len place left b p kept at le is e k =
@@ -142,6 +144,7 @@ rest_line-by n s true e = refl
 rest_line-by n [] false e = absurd (grind (arith, nat_tests))
 rest_line-by n (x ∷ s) false e = ap (λ l. l ∷ []) (sym (line_of-long n (x ∷ s) (grind (arith, nat_tests))))
 
+-- the line of a rest is the last line
 pub rest_line-rest_of : (n : ℕ) (s : List ℕ) → rest_line n (rest_of n s) ≡ last_line n s
 rest_line-rest_of n s = rest_line-by n s (nat_le (length s) (n + 1)) refl
 
@@ -149,9 +152,11 @@ one_line-of : (n : ℕ) (w : List ℕ) → 0 < length w → line_of n w ∷ [] �
 one_line-of n [] lt = absurd (omega arith)
 one_line-of n (x ∷ w) lt = refl
 
+-- where no line waits, the last line is that of the bytes kept
 pub last-line : (n : ℕ) (w text : List ℕ) (line : InputLine) → whole n w ≡ [] → line ≡ line_of n text → text ≡ w → 0 < length text → line ∷ [] ≡ rest_line n (rest n w)
 last-line n w text line none f e lt =
     ap (λ l. l ∷ []) f ∙ one_line-of n text lt ∙ ap (last_line n) (e ∙ sym (open_end-no_lines n w none)) ∙ sym (rest_line-rest_of n (open_end w))
 
+-- the lines are those that were ended, and the last one
 pub last-lines : (n : ℕ) (r : InputLine) (last : List InputLine) → last ≡ rest_line n r → (b : List ℕ) → rest n b ≡ r → lines n b ≡ whole n b ++ last
 last-lines n r last e b is = ap (λ l. whole n b ++ l) (sym (rest_line-rest_of n (open_end b)) ∙ ap (rest_line n) is ∙ sym e)

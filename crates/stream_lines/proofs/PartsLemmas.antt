@@ -70,6 +70,7 @@ whole-onto n b p =
     ∙ rw d.2 (ap (map (line_of n)) (all_but_last-append (all_but_last (parts b)) (open_end b ++ d.0) d.1)
     ∙ map-append (line_of n) (all_but_last (parts b)) (all_but_last ((open_end b ++ d.0) ∷ d.1)))
 
+-- what is open behind one piece more
 pub open_end-onto : (b p : List ℕ) → open_end (b ++ p) ≡ last_part (onto (open_end b) (parts p))
 open_end-onto b p =
     let d = parts-cons p in
@@ -86,6 +87,7 @@ parts-open-cons : (x : ℕ) (b : List ℕ) (t : Bool) → (x == 10) ≡ t → pa
 parts-open-cons x b true e one = rw (last_part-cons [] b) one
 parts-open-cons x b false e one = let c = parts-cons b in parts-open-first x (parts b) c.0 c.1 c.2 e one
 
+-- the open end is one part
 pub parts-open : (b : List ℕ) → parts (open_end b) ≡ open_end b ∷ []
 parts-open [] = refl
 parts-open (x ∷ b) = parts-open-cons x b (x == 10) refl (parts-open b)
@@ -95,6 +97,7 @@ one_part : (a : List ℕ) (ps : List (List ℕ)) (q : List ℕ) (qs : List (List
 one_part a ps q [] e f none = f ∙ ap (λ l. l ∷ []) (ap (join_with_byte 10) (sym (e ∙ f)) ∙ join_with_byte-slice_split 10 a)
 one_part a ps q (c ∷ qs) e f none = absurd (cons_not_nil _ _ (sym (ap all_but_last f) ∙ none))
 
+-- bytes without a line are one part
 pub parts-no_lines : (a : List ℕ) → all_but_last (parts a) ≡ [] → parts a ≡ a ∷ []
 parts-no_lines a none = let c = parts-cons a in one_part a (parts a) c.0 c.1 refl c.2 none
 
@@ -118,12 +121,15 @@ parts-first-append t d f r e = parts-append t d ∙ rw (e, all_but_last-cons f r
 pub whole-first : (n : ℕ) (w f r : List ℕ) → parts w ≡ f ∷ parts r → whole n w ≡ line_of n f ∷ whole n r
 whole-first n w f r e = rw (e, all_but_last-cons f r) refl
 
+-- the first part leaves the open end
 pub open_end-first : (w f r : List ℕ) → parts w ≡ f ∷ parts r → open_end w ≡ open_end r
 open_end-first w f r e = rw (e, last_part-cons f r) refl
 
+-- one part has no whole line
 pub whole-one : (n : ℕ) (w : List ℕ) → parts w ≡ w ∷ [] → whole n w ≡ []
 whole-one n w e = rw e refl
 
+-- and is open
 pub open_end-one : (w : List ℕ) → parts w ≡ w ∷ [] → open_end w ≡ w
 open_end-one w e = ap last_part e
 
@@ -132,6 +138,7 @@ no_elements : {X Y : Type 0} (f : X → Y) (l : List X) → map f l ≡ [] → l
 no_elements f [] e = refl
 no_elements f (x ∷ l) e = absurd (cons_not_nil _ _ e)
 
+-- bytes without a whole line are open
 pub open_end-no_lines : (n : ℕ) (w : List ℕ) → whole n w ≡ [] → open_end w ≡ w
 open_end-no_lines n w e = open_end-one w (parts-no_lines w (no_elements (line_of n) (all_but_last (parts w)) e))
 
@@ -150,6 +157,7 @@ parts-room-cons : (x : ℕ) (b : List ℕ) (t : Bool) → length (all_but_last (
 parts-room-cons x b true le = rw (all_but_last-cons [] b, last_part-cons [] b) (omega (arith, le))
 parts-room-cons x b false le = let c = parts-cons b in room-onto_first x (parts b) c.0 c.1 (length b) c.2 le
 
+-- there are no more lines than bytes
 pub parts-room : (b : List ℕ) → length (all_but_last (parts b)) + length (open_end b) ≤ length b
 parts-room [] = omega arith
 parts-room (x ∷ b) = omega (arith, parts-room-cons x b (x == 10) (parts-room b))

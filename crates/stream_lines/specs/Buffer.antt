@@ -1,4 +1,4 @@
--- The bytes that are kept, and what is known of the line ends among them.
+-- The buffer of `Lines`: the bytes that are kept, and what is known of the line ends among them.
 use Rattle.std.specs.Prelude.{◌≡◌, ℕ, ◌+◌, ◌<◌, ◌≤◌, List, [], ◌∷◌, ◌++◌, length, take, drop, Option, MatchOption}
 use Rattle.flux_model.specs.Lines.{parts, open_end, whole, rest}
 
@@ -21,7 +21,7 @@ pub record Stands (n : ℕ) (came kept : List ℕ) (left : ℕ) : Type 0 where
   pub rest : rest n kept ≡ rest n came
   pub open_len : length (open_end kept) ≡ left
 
--- what is known of the bytes from the first line on
+-- a buffer in order: what is known of its bytes from the first waiting line on
 pub record IsBuffer (n : ℕ) (bytes : List ℕ) (from : ℕ) (len : Option ℕ) (left : ℕ) : Type 0 where
   pub limit : n ≤ 4096
   pub start : from ≤ length bytes
