@@ -14,6 +14,7 @@ map_said f Nothing = Nothing
 map_said f (Says x) = Says (f x)
 map_said f (Refused reason) = Refused reason
 
+-- what is made of an edge may be made at once
 pub read_edge-map : {A B : Type 0} (f : A → B) (make : ℕ → List ℕ → ℕ → A) (words : List (List ℕ))
     → map_said f (read_edge make words) ≡ read_edge (λ from label to. f (make from label to)) words
 read_edge-map f make [] = refl
@@ -29,6 +30,7 @@ read_edge-map f make (a ∷ b ∷ c ∷ []) = by (is_number a) (is_number b) (li
     by false y z = refl
 read_edge-map f make (a ∷ b ∷ c ∷ d ∷ more) = refl
 
+-- and what is made of a vertex
 pub read_vertex-map : {A B : Type 0} (f : A → B) (make : ℕ → List (List ℕ) → A) (words : List (List ℕ))
     → map_said f (read_vertex make words) ≡ read_vertex (λ id labels. f (make id labels)) words
 read_vertex-map f make [] = refl

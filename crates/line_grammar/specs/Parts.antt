@@ -31,9 +31,11 @@ abbrev pub said_by : {T : Type 0} → Result T Code → Said T
 said_by (Ok parts) = Says parts
 said_by (Err reason) = Refused reason
 
+-- the vertex of an id and its labels
 abbrev pub vertex_of : ℕ → List (List ℕ) → Vertex
 vertex_of id labels = record { id = id; labels = labels }
 
+-- the triple of a source, a label and a target
 abbrev pub triple_of : ℕ → List ℕ → ℕ → Triple
 triple_of src label dst = record { src = src; label = label; dst = dst }
 

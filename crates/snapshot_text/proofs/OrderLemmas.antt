@@ -10,11 +10,13 @@ use Rattle.flux_model.specs.Text.{text_cmp}
 use Rattle.flux_model.specs.Graph.{triple_cmp}
 use Rattle.flux_model.specs.declared.graph.Triple.{Triple}
 
+-- triples are in a total order
 pub triple_total : IsTotalOrder triple_cmp
 triple_total =
     then_total (on_total (λ (t : Triple). t.src) nat_cmp_total)
     (then_total (on_total (λ (t : Triple). t.label) nat_list_cmp_total) (on_total (λ (t : Triple). t.dst) nat_cmp_total))
 
+-- numbers that compare equal are the same
 pub same_number : (x y : ℕ) → nat_cmp x y ≡ Equal → x ≡ y
 same_number x y e = ranked x y Equal (sym e)
 
@@ -33,6 +35,7 @@ same_text (x ∷ xs) (y ∷ ys) e =
     let rest = same_text xs ys parts.1 in
     λ i. first i ∷ rest i
 
+-- triples that compare equal are the same
 pub same_triple : (s t : Triple) → triple_cmp s t ≡ Equal → s ≡ t
 same_triple s t e =
     let outer = both_equal (nat_cmp s.src t.src) (ordering_then (text_cmp s.label t.label) (nat_cmp s.dst t.dst)) e in

@@ -29,6 +29,7 @@ ids-ascending (v ∷ []) a = refl
 ids-ascending (v ∷ w ∷ vs) a =
     first_too (is_lt (nat_cmp v.id w.id)) (is_ascending vertex_cmp (w ∷ vs)) (is_ascending nat_cmp (vertex_ids (w ∷ vs))) a (ids-ascending (w ∷ vs))
 
+-- the ids of a graph are strictly ascending
 pub ids-strict : (g : Graph) → IsGraph g → IsStrictlySortedBy nat_cmp (ids g)
 ids-strict g is = strict_from_ascending nat_cmp nat_cmp_total (ids g) (ids-ascending g.vertices is.ascending_vertices)
 
@@ -59,6 +60,7 @@ has_at (v ∷ vs) (suc i) id e = later (v.id == id) (has_at vs i id e)
     later true h = refl
     later false h = h
 
+-- the graph has each vertex that stands among its ids
 pub has_vertex-at : (g : Graph) (i id : ℕ) → slice_get (ids g) i ≡ Some id → IsTrue (has_vertex g id)
 has_vertex-at g i id e = has_at g.vertices i id e
 
