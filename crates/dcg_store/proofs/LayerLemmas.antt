@@ -19,11 +19,11 @@ Entries = List (ℕ × Row)
 
 -- the map of the entries, and the look-up among them
 pub get_found : (es : Entries) (v : ℕ) → get (from_entries {R = nat_cmp} es) v ≡ lookup (nat_eq v) es
-get_found es v = get-from_entries nat_cmp_total es v ∙ found es
+get_found es v = get-from_entries nat_cmp_total es v ∙ find_is_lookup es
   where
-    found : (es : Entries) → find nat_cmp v es ≡ lookup (nat_eq v) es
-    found [] = refl
-    found (e ∷ es) = λ i. cond (unsigned_tied v e.0 i) (Some e.1) (found es i)
+    find_is_lookup : (es : Entries) → find nat_cmp v es ≡ lookup (nat_eq v) es
+    find_is_lookup [] = refl
+    find_is_lookup (e ∷ es) = λ i. cond (unsigned_tied v e.0 i) (Some e.1) (find_is_lookup es i)
 
 pub len-le-length : (es : Entries) → len (from_entries {R = nat_cmp} es) ≤ length es
 len-le-length [] = let none = len-empty nat_cmp Row in omega (arith, none)

@@ -26,6 +26,7 @@ put-list_any R p x (y ∷ ys) a = by (R x y) refl (p y) refl (put-list_any R p x
 
 -- ---- some fewer
 
+-- a filter keeps at most all
 pub length-filter-le : {K : Type 0} (p : K → Bool) (xs : List K) → length (filter p xs) ≤ length xs
 length-filter-le p [] = omega arith
 length-filter-le p (x ∷ xs) = by (p x) refl (length-filter-le p xs)
@@ -35,6 +36,7 @@ length-filter-le p (x ∷ xs) = by (p x) refl (length-filter-le p xs)
     by false e rest = rw e (omega arith)
 
 module _ {K : Type 0} (p : K → Bool) where
+  -- what all pass, all that are kept pass
   pub filter-list_all : (r : K → Bool) (xs : List K) → list_all r xs ≡ true → list_all r (filter p xs) ≡ true
   filter-list_all r [] a = refl
   filter-list_all r (x ∷ xs) a = by (p x) refl (both (r x) (list_all r xs) a) (filter-list_all r xs)
@@ -43,6 +45,7 @@ module _ {K : Type 0} (p : K → Bool) where
       by true e two rest = rw (e, two.0) (rest two.1)
       by false e two rest = rw e (rest two.1)
 
+  -- what holds of all holds of all that are kept
   pub filter-AllByRecursion : (P : K → Type 0) (xs : List K) → AllByRecursion P xs → AllByRecursion P (filter p xs)
   filter-AllByRecursion P [] a = tt
   filter-AllByRecursion P (x ∷ xs) a = by (p x) refl (filter-AllByRecursion P xs a.1)
@@ -56,6 +59,7 @@ module _ {K : Type 0} (R : K → K → Ordering) (o : IsTotalOrder R) where
   abbrev pub below_all : K → List K → Bool
   below_all y xs = list_all (λ x. is_lt (R y x)) xs
 
+  -- the test for Less tells Less
   pub less : (r : Ordering) → is_lt r ≡ true → r ≡ Less
   less Less h = refl
   less Equal h = cc
@@ -75,10 +79,12 @@ module _ {K : Type 0} (R : K → K → Ordering) (o : IsTotalOrder R) where
   cons_below y [] b a = refl
   cons_below y (x ∷ xs) b a = rw (both (is_lt (R y x)) (below_all y xs) b).0 a
 
+  -- the tail of an ascending list is ascending
   pub tail_ascending : (y : K) (xs : List K) → is_ascending R (y ∷ xs) ≡ true → is_ascending R xs ≡ true
   tail_ascending y [] a = refl
   tail_ascending y (x ∷ xs) a = (both (is_lt (R y x)) (is_ascending R (x ∷ xs)) a).1
 
+  -- what is kept of an ascending list is ascending
   pub filter-ascending : (p : K → Bool) (xs : List K) → is_ascending R xs ≡ true → is_ascending R (filter p xs) ≡ true
   filter-ascending p [] a = refl
   filter-ascending p (x ∷ xs) a = by (p x) refl (filter-ascending p xs (tail_ascending x xs a))
@@ -97,6 +103,7 @@ module _ {K : Type 0} (R : K → K → Ordering) (o : IsTotalOrder R) where
 
   -- ---- one ascending list within another
 
+  -- an order told the other way round
   pub greater : (x y : K) → R y x ≡ Less → R x y ≡ Greater
   greater x y e = o.antisymm x y ∙ ap ordering_reverse e
 
@@ -108,6 +115,7 @@ module _ {K : Type 0} (R : K → K → Ordering) (o : IsTotalOrder R) where
       let within = both (is_in R x (y ∷ ys)) (list_all (λ z. is_in R z (y ∷ ys)) xs) a in
       rw (sym (in-greater R x y ys (greater x y (less (R y x) above.0))) ∙ within.0) (in_rest y ys xs above.1 within.1)
 
+  -- an ascending list within another is no longer
   pub within-length : (ys xs : List K) → is_ascending R ys ≡ true → is_ascending R xs ≡ true → list_all (λ x. is_in R x ys) xs ≡ true → length xs ≤ length ys
   within-length [] [] b a w = omega arith
   within-length [] (x ∷ xs) b a w = cc

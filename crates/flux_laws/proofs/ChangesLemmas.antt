@@ -29,7 +29,7 @@ use Rattle.flux_laws.proofs.TestLemmas.{both, or_right}
 use Rattle.flux_laws.proofs.PlainLemmas.{list_all-weaker}
 use Rattle.flux_laws.proofs.WithinLemmas.{within-filter}
 use Rattle.flux_laws.proofs.GraphsLemmas.{vertex_added, vertex_dropped, edge_added, edge_dropped}
-use Rattle.flux_laws.proofs.EmbeddingsLemmas.{map_cmp, same_exact, passes, kept, found, embeds, embeddings-ascending}
+use Rattle.flux_laws.proofs.EmbeddingsLemmas.{map_cmp, same_exact, passes, kept, embedding_listed, embeds, embeddings-ascending}
 use Rattle.flux_laws.proofs.SetsLemmas.{vertex_total}
 
 -- ---- what is gained and what is lost
@@ -65,25 +65,30 @@ only_there q g h m = (one, two)
     one : Contains (without (embeddings q h) (embeddings q g)) m → IsEmbedding q h m × (IsEmbedding q g m → ⊥)
     one c =
         let there : list_any (same_map m) (filter new (embeddings q h)) ≡ true = list_any-from_Contains nat_list_eq_equiv m (without (embeddings q h) (embeddings q g)) c in
-        (embeds q h m (stood new m (embeddings q h) there), λ e. clash (list_any (same_map m) (embeddings q g)) (passes new m (embeddings q h) there) (found q g m e))
+        (embeds q h m (stood new m (embeddings q h) there), λ e. clash (list_any (same_map m) (embeddings q g)) (passes new m (embeddings q h) there) (embedding_listed q g m e))
 
     two : IsEmbedding q h m × (IsEmbedding q g m → ⊥) → Contains (without (embeddings q h) (embeddings q g)) m
     two p =
         Contains-from_any same_exact m (without (embeddings q h) (embeddings q g))
-        (kept new m (embeddings q h) (unless (list_any (same_map m) (embeddings q g)) (λ e. p.1 (embeds q g m e))) (found q h m p.0))
+        (kept new m (embeddings q h) (unless (list_any (same_map m) (embeddings q g)) (λ e. p.1 (embeds q g m e))) (embedding_listed q h m p.0))
 
+-- gained is what is an embedding after the change alone
 pub are_new : GainedAreNew
 are_new q g h m = only_there q g h m
 
+-- lost is what was one before it alone
 pub are_old : LostAreOld
 are_old q g h m = only_there q h g m
 
+-- nothing is gained and lost
 pub not_both : NoneGainedAndLost
 not_both q g h m c d = ((are_new q g h m).0 c).1 (((are_old q g h m).0 d).0)
 
+-- what is gained ascends
 pub gained_up : GainedAscend
 gained_up q g h a = filter-ascending map_cmp nat_list_cmp_total (λ m. not (list_any (same_map m) (embeddings q g))) (embeddings q h) (embeddings-ascending q h a)
 
+-- what is lost ascends
 pub lost_up : LostAscend
 lost_up q g h a = gained_up q h g a
 
@@ -121,7 +126,7 @@ none_left q g h all [] = refl
 none_left q g h all (x ∷ xs) = by (is_embedding q g x) refl (none_left q g h all xs)
   where
     by : (b : Bool) → is_embedding q g x ≡ b → without (filter (is_embedding q g) xs) (embeddings q h) ≡ [] → without (filter (is_embedding q g) (x ∷ xs)) (embeddings q h) ≡ []
-    by true e rest = rw (e, found q h x (still q g h all x e)) rest
+    by true e rest = rw (e, embedding_listed q h x (still q g h all x e)) rest
     by false e rest = rw e rest
 
 same_any : (m : List ℕ) (xs : List (List ℕ)) → is_in map_cmp m xs ≡ list_any (same_map m) xs
@@ -133,7 +138,7 @@ all_there q g h all [] = refl
 all_there q g h all (x ∷ xs) = by (is_embedding q g x) refl (all_there q g h all xs)
   where
     by : (b : Bool) → is_embedding q g x ≡ b → list_all (λ m. is_in map_cmp m (embeddings q h)) (filter (is_embedding q g) xs) ≡ true → list_all (λ m. is_in map_cmp m (embeddings q h)) (filter (is_embedding q g) (x ∷ xs)) ≡ true
-    by true e rest = rw (e, same_any x (embeddings q h) ∙ found q h x (still q g h all x e)) rest
+    by true e rest = rw (e, same_any x (embeddings q h) ∙ embedding_listed q h x (still q g h all x e)) rest
     by false e rest = rw e rest
 
 lost-none : (q : PatternGraph) (g h : Graph) → HasAll g h → without (embeddings q g) (embeddings q h) ≡ []
@@ -206,16 +211,20 @@ changed limits g h (DropVertex id) a e = subst Ascends (vertex_dropped limits g 
 changed limits g h (AddEdge t) a e = subst Ascends (edge_added limits g h t e).is a
 changed limits g h (DropEdge t) a e = subst Ascends (edge_dropped limits g h t e).is a
 
+-- an insertion loses nothing
 pub loses_none : InsertionLosesNone
 loses_none limits q g h update is e = lost-none q g h (inserted limits g h update is e)
 
+-- a removal gains nothing
 pub gains_none : RemovalGainsNone
 gains_none limits q g h update is e = lost-none q h g (removed limits g h update is e)
 
+-- after an insertion: the old ones and what is gained
 pub adds_gained : InsertionAddsGained
 adds_gained limits q g h update graph is e =
     grows q g h (inserted limits g h update is e) graph.ascending_vertices (changed limits g h update graph.ascending_vertices e)
 
+-- before a removal: those that are left and what is lost
 pub takes_lost : RemovalTakesLost
 takes_lost limits q g h update graph is e =
     grows q h g (removed limits g h update is e) (changed limits g h update graph.ascending_vertices e) graph.ascending_vertices

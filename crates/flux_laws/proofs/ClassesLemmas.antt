@@ -25,7 +25,7 @@ use Rattle.flux_laws.proofs.TestLemmas.{both, eqb-refl}
 use Rattle.flux_laws.proofs.GraphsLemmas.{triple_exact}
 use Rattle.flux_laws.proofs.SetsLemmas.{triple_total, same_triple}
 use Rattle.flux_laws.proofs.UndoLemmas.{put_back, absent_after}
-use Rattle.flux_laws.proofs.EmbeddingsLemmas.{same_exact, passes, kept, found, embeds}
+use Rattle.flux_laws.proofs.EmbeddingsLemmas.{same_exact, passes, kept, embedding_listed, embeds}
 
 -- ---- the first edge that is sent
 
@@ -205,7 +205,7 @@ module _ (q : PatternGraph) (g : Graph) (t : Triple) (absent : has_triple g t �
       by true e true f = absurd (false_true (sym (was ∙ ap not f) ∙ embeds q g m e))
       by true e false f = refl
       by false e true f = refl
-      by false e false f = absurd (false_true (sym e ∙ found q g m (was ∙ ap not f)))
+      by false e false f = absurd (false_true (sym e ∙ embedding_listed q g m (was ∙ ap not f)))
 
   gained_is : gained q g (with_triple g t) ≡ filter (λ m. within 0 (length q.edges) (first_sent 0 t m q.edges)) (embeddings q (with_triple g t))
   gained_is = alike_in (is_embedding q (with_triple g t)) _ _ (λ m h. is_new m h ∙ sym (sent_within 0 t m q.edges)) (id_lists (ids g) (vertex_count q))

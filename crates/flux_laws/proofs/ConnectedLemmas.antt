@@ -228,6 +228,7 @@ module _ (edges : List PatternEdge) (n : ℕ) where
   all_reached : 1 ≤ n → list_all (λ u. is_in nat_cmp u (reached edges n n)) range ≡ (length (reached edges n n) == n)
   all_reached some = count_all (λ u. is_in nat_cmp u (reached edges n n)) 0 n ∙ ap (λ (l : List ℕ). length l == n) (seen-filter (reached edges n n) (seen some n))
 
+  -- all vertices are reached exactly where a chain leads to each
   pub chains : 1 ≤ n → AllByRecursion (HasEnds n) edges → ((length (reached edges n n) == n) ≡ true) ↔ ((u : ℕ) → u < n → (ws : List ℕ) × IsChain edges 0 ws u)
   chains some ends = (there, back)
     where
@@ -241,5 +242,6 @@ module _ (edges : List PatternEdge) (n : ℕ) where
           ∙ all_range (λ u. is_in nat_cmp u (reached edges n n)) 0 n
           (λ u l. let small : u < n = omega arith in chain_in (reached edges n n) (closed some) ends 0 (f u small).0 u (start some n) (f u small).1)
 
+-- connected is connected by chains
 pub by_chains : ConnectedByChains
 by_chains q some ends = chains q.edges (vertex_count q) some ends

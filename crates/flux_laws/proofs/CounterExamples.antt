@@ -1,5 +1,5 @@
 -- Laws without one of their premises, each with values for which they are false.
-use Rattle.std.specs.Prelude.{◌≡◌, ℕ, zero, suc, ◌+◌, ◌≤◌, ◌<◌, List, [], ◌∷◌, ◌++◌, codes, length, map, take, Option, None, Some, Result, Ok, Err, if◌then◌else◌}
+use Rattle.std.specs.Prelude.{◌≡◌, ℕ, zero, suc, ◌+◌, ◌≤◌, List, [], ◌∷◌, ◌++◌, codes, length, map, take, Option, None, Some, Result, Ok, Err, if◌then◌else◌}
 use Rattle.std.proofs.Common.{true, refl, ap, arith}
 use Rattle.std.specs.List.{Any}
 use Rattle.std.specs.Str.{bytes_eq}
@@ -10,9 +10,9 @@ use Rattle.flux_model.specs.Reading.{graph_reading}
 use Rattle.flux_model.specs.Graph.{Graph, IsGraph, empty_graph, apply}
 use Rattle.flux_model.specs.GraphFile.{read_graph, graph_of}
 use Rattle.flux_model.specs.GraphText.{graph_text}
-use Rattle.flux_model.specs.Pattern.{PatternGraph, IsPattern, vertex_count, is_connected}
+use Rattle.flux_model.specs.Pattern.{PatternGraph, IsPattern, is_connected}
 use Rattle.flux_model.specs.Report.{blocks}
-use Rattle.flux_model.specs.Verdict.{Shape, Match, Save, Files, Accepted, Watched, Ending, Verdict, Done, NoFile, TooMuch, graph_file, ending_of, ending_with, written_before}
+use Rattle.flux_model.specs.Verdict.{Shape, Match, Save, Files, Accepted, Watched, Ending, Done, NoFile, TooMuch, graph_file, ending_of, ending_with, written_before}
 use Rattle.flux_model.specs.declared.code.Bad.{Bad}
 use Rattle.flux_model.specs.declared.code.Code.TheVariants as code
 use Rattle.flux_model.specs.declared.graph.Update.TheVariants.{AddVertex}

@@ -22,6 +22,7 @@ use Rattle.flux_laws.specs.EmbeddingsLaws.{EmbeddingsAscend, EmbeddingsAreAll}
 use Rattle.flux_laws.proofs.AscendingLemmas.{below_all, below_rest, tail_ascending, less, append-ascending, filter-ascending}
 use Rattle.flux_laws.proofs.TestLemmas.{both, or_right}
 
+-- the order of maps, id by id
 abbrev pub map_cmp : List ℕ → List ℕ → Ordering
 map_cmp = slice_cmp nat_cmp
 
@@ -70,15 +71,18 @@ ids-ascending (v ∷ w ∷ ws) a =
     let two = both (is_lt (nat_cmp v.id w.id)) (is_ascending vertex_cmp (w ∷ ws)) a in
     rw two.0 (ids-ascending (w ∷ ws) two.1)
 
+-- embeddings ascend where the vertices do
 pub embeddings-ascending : (q : PatternGraph) (g : Graph) → is_ascending vertex_cmp g.vertices ≡ true → is_ascending (slice_cmp nat_cmp) (embeddings q g) ≡ true
 embeddings-ascending q g a =
     filter-ascending map_cmp nat_list_cmp_total (is_embedding q g) (id_lists (ids g) (vertex_count q)) (id_lists-ascending (ids g) (vertex_count q) (ids-ascending g.vertices a))
 
+-- embeddings ascend
 pub ascend : EmbeddingsAscend
 ascend = embeddings-ascending
 
 -- ---- which lists they are
 
+-- maps with the same ids are the same
 pub same_exact : (m n : List ℕ) → same_map m n ≡ true → m ≡ n
 same_exact m n e = exact_bytes m n (equal (slice_cmp nat_cmp m n) (is_eq-slice_cmp m n ∙ e))
   where
@@ -97,6 +101,7 @@ passes p m (x ∷ xs) h = by (p x) refl (same_map m x) refl (passes p m xs)
     by true e false f rest = rest (rw (e, f) at h)
     by false e c f rest = rest (rw e at h)
 
+-- a map of the list that passes is kept
 pub kept : (p : List ℕ → Bool) (m : List ℕ) (xs : List (List ℕ)) → p m ≡ true → list_any (same_map m) xs ≡ true → list_any (same_map m) (filter p xs) ≡ true
 kept p m [] t h = cc
 kept p m (x ∷ xs) t h = by (p x) refl (same_map m x) refl (kept p m xs t)
@@ -143,13 +148,16 @@ in_lists g (l ∷ ls) (i ∷ m) h =
     let two = both (fits_labels g l i) (pointwise (fits_labels g) ls m) h in
     in_front i m (id_lists (ids g) (length ls)) (ids g) (id_there l i g.vertices two.0) (in_lists g ls m two.1)
 
-pub found : (q : PatternGraph) (g : Graph) (m : List ℕ) → is_embedding q g m ≡ true → list_any (same_map m) (embeddings q g) ≡ true
-found q g m e =
+-- an embedding stands in the list
+pub embedding_listed : (q : PatternGraph) (g : Graph) (m : List ℕ) → is_embedding q g m ≡ true → list_any (same_map m) (embeddings q g) ≡ true
+embedding_listed q g m e =
     let two = both (fit_all q g m && keeps_edges q g m) (keeps_mode q.mode m) e in
     kept (is_embedding q g) m (id_lists (ids g) (vertex_count q)) e (in_lists g q.labels m (both (fit_all q g m) (keeps_edges q g m) two.0).0)
 
+-- what stands in the list is an embedding
 pub embeds : (q : PatternGraph) (g : Graph) (m : List ℕ) → list_any (same_map m) (embeddings q g) ≡ true → is_embedding q g m ≡ true
 embeds q g m h = passes (is_embedding q g) m (id_lists (ids g) (vertex_count q)) h
 
+-- the list has all embeddings, and nothing else
 pub are_all : EmbeddingsAreAll
-are_all q g m = (λ c. embeds q g m (list_any-from_Contains nat_list_eq_equiv m (embeddings q g) c), λ e. Contains-from_any same_exact m (embeddings q g) (found q g m e))
+are_all q g m = (λ c. embeds q g m (list_any-from_Contains nat_list_eq_equiv m (embeddings q g) c), λ e. Contains-from_any same_exact m (embeddings q g) (embedding_listed q g m e))

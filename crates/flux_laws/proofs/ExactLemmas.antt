@@ -80,6 +80,7 @@ other_vertices g id = record { vertices = λ w. (one w, two w); triples = refl }
     two : (w : Vertex) → Contains g.vertices w × (w.id ≢ id) → Contains (filter test g.vertices) w
     two w h = still_in test g.vertices w h.0 (not_so (w.id == id) (λ e. h.1 (eqb-true w.id id e)))
 
+-- a change adds or removes exactly what it names
 pub exact : ChangeIsExact
 exact limits g h (AddVertex id labels) e =
     let v : Vertex = record { id = id; labels = labels } in
@@ -116,6 +117,7 @@ add_vertex_back limits g v graph within there =
     ap (λ vs. record g { vertices = vs }) (ap (put vertex_cmp v) same ∙ member_back vertex_cmp vertex_total v g.vertices graph.ascending_vertices there) in
     add_vertex_ok limits h v absent (rw (free, named) refl) ∙ ap okay back
 
+-- a vertex that was removed can be added again
 pub redo_vertex : InsertionUndoesVertex
 redo_vertex limits g h v graph within there e =
     rw (sym (vertex_dropped limits g h v.id e).is) (add_vertex_back limits g v graph within there)

@@ -35,11 +35,13 @@ file_keeps limits P keep start bytes g e =
     read_keeps P (Saying IsSound) (graph_after_line limits) (line_keeps limits P keep) 1 empty_graph g (map graph_reading (lines limits.line_bytes bytes))
     (all-map (Saying IsSound) graph_reading graph_line (lines limits.line_bytes bytes)) start e
 
+-- an accepted graph file makes a graph
 pub makes_graph : GraphFileMakesGraph
 makes_graph limits bytes g e =
     file_keeps limits IsGraph (λ a b update sound graph f. keeps_graph limits a b update graph sound f)
     (record { ascending_vertices = refl; vertices = tt; ascending_triples = refl; texts = tt; ends = refl }) bytes g e
 
+-- within the limits
 pub within_limits : GraphFileKeepsLimits
 within_limits limits bytes g e =
     file_keeps limits (IsWithin limits) (λ a b update sound within f. keeps_limits limits a b update within f)

@@ -3,6 +3,7 @@ use Rattle.std.proofs.Common.{◌≡◌, ℕ, zero, suc, ◌+◌, ◌-◌, ◌*�
 use Rattle.std.proofs.lemmas.Bool.Decides.{nat_tests}
 use Rattle.std.proofs.lemmas.Fmt.{decimal_is_IsNumeral_wide, length-decimal-le_wide}
 use Rattle.std.proofs.lemmas.List.Folds.{list_all-append}
+use Rattle.std.proofs.lemmas.Map.Lookups.{exact_bytes}
 use Rattle.std.specs.Prelude.{codes}
 use Rattle.std.specs.Cmp.Lexicographic.{nat_list_cmp_total}
 use Rattle.std.specs.List.{list_all, list_any, join_with_byte}
@@ -20,7 +21,7 @@ use Rattle.flux_laws.specs.LinesLaws.{is_plain}
 use Rattle.flux_laws.specs.WordsLaws.{is_word}
 use Rattle.flux_laws.proofs.TestLemmas.{both}
 use Rattle.flux_laws.proofs.PlainLemmas.{list_all-weaker}
-use Rattle.flux_laws.proofs.SetsLemmas.{determined, same_text, label_set_ascending, label_set_members}
+use Rattle.flux_laws.proofs.SetsLemmas.{determined, label_set_ascending, label_set_members}
 use Rattle.flux_laws.proofs.WordsLemmas.{read_back, decimal_digits, decimal_read_back, id_number}
 
 -- ---- bytes above the space
@@ -132,6 +133,7 @@ reads-join words h = read_back words (list_all-weaker is_solid_word is_word soli
 
 -- ---- vertices
 
+-- the words of a vertex line
 abbrev pub vertex_words : Vertex → List (List ℕ)
 vertex_words v = codes "v" ∷ decimal v.id ∷ v.labels
 
@@ -148,6 +150,7 @@ length-labels w (l ∷ ls) h =
     let here = length-text l parts.0 in
     omega (arith, length-append w (32 ∷ join_with_byte 32 (l ∷ ls)))
 
+-- the line is read as it stands
 pub vertex_plain : (n : ℕ) (v : Vertex) → 1052 ≤ n → IsVertex v → is_plain n (join_with_byte 32 (vertex_words v)) ≡ true
 vertex_plain n v room is =
     let labels = length-labels (decimal v.id) v.labels is.labels.texts in
@@ -156,11 +159,12 @@ vertex_plain n v room is =
     plain-join n (vertex_words v) (vertex_solid v is) (omega arith)
 
 same_set : (labels : List (List ℕ)) → IsLabelSet labels → label_set labels ≡ labels
-same_set labels is = determined text_cmp nat_list_cmp_total same_text (label_set labels) labels (label_set_ascending labels) is.ascending (label_set_members labels)
+same_set labels is = determined text_cmp nat_list_cmp_total exact_bytes (label_set labels) labels (label_set_ascending labels) is.ascending (label_set_members labels)
 
 not_many : (n : ℕ) → n ≤ 16 → nat_lt 16 n ≡ false
 not_many n h = grind (arith, nat_tests)
 
+-- and it says that vertex
 pub vertex_says : (v : Vertex) → IsVertex v → graph_reading (held (join_with_byte 32 (vertex_words v))) ≡ Says (AddVertex v.id v.labels)
 vertex_says v is =
     let few = not_many (length v.labels) is.labels.few in
@@ -172,9 +176,11 @@ vertex_says v is =
 
 -- ---- triples
 
+-- the words of an edge line
 abbrev pub triple_words : Triple → List (List ℕ)
 triple_words t = codes "e" ∷ decimal t.src ∷ decimal t.dst ∷ t.label ∷ []
 
+-- the ids have 32 bits, and the label is a text
 pub record IsSmall (t : Triple) : Type 0 where
   pub src : t.src < 2 ^ 32
   pub dst : t.dst < 2 ^ 32
@@ -187,6 +193,7 @@ triple_solid t is =
     let label = text_is_solid t.label is.label in
     rw (src, dst, label) refl
 
+-- the line is read as it stands
 pub triple_plain : (n : ℕ) (t : Triple) → 1052 ≤ n → IsSmall t → is_plain n (join_with_byte 32 (triple_words t)) ≡ true
 triple_plain n t room is =
     let src = length-id t.src is.src in
@@ -195,6 +202,7 @@ triple_plain n t room is =
     plain-join n (triple_words t) (triple_solid t is)
     (omega (arith, length-append (decimal t.src) (32 ∷ (decimal t.dst ++ 32 ∷ t.label)), length-append (decimal t.dst) (32 ∷ t.label)))
 
+-- and it says that triple
 pub triple_says : (t : Triple) → IsSmall t → graph_reading (held (join_with_byte 32 (triple_words t))) ≡ Says (AddEdge t)
 triple_says t is =
     let from = id_number t.src is.src in

@@ -17,11 +17,13 @@ module _ {K : Type 0} (R : K → K → Ordering) (o : IsTotalOrder R) where
       let here = both (is_lt (R y x)) (below_all R o y rest) (both (below_all R o y ys) (below_all R o y (x ∷ rest)) all).1 in
       greater R o x y (less R o (R y x) here.0)
 
+  -- an element of an ascending list is not in the front before it
   pub absent_in_front : (x : K) (front rest : List K) → is_ascending R (front ++ x ∷ rest) ≡ true → is_in R x front ≡ false
   absent_in_front x [] rest a = refl
   absent_in_front x (y ∷ ys) rest a =
       in-greater R x y ys (above_front y x ys rest a) ∙ absent_in_front x ys rest (tail_ascending R o y (ys ++ x ∷ rest) a)
 
+  -- put into that front it goes behind it
   pub put_behind : (x : K) (front rest : List K) → is_ascending R (front ++ x ∷ rest) ≡ true → put R x front ≡ front ++ x ∷ []
   put_behind x [] rest a = refl
   put_behind x (y ∷ ys) rest a =

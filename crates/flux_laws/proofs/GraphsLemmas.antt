@@ -1,14 +1,12 @@
 -- Laws of graphs and their changes.
 use Rattle.std.proofs.Common.{◌≡◌, ℕ, ◌+◌, ◌≤◌, Bool, true, false, not, ◌||◌, ◌==◌, nat_le, nat_lt, List, [], ◌∷◌, ◌++◌, length, Result, Ok, Err, refl, sym, ◌∙◌, ap, subst, arith}
 use borrow.Author.Tests.{eqb-true, lt-leb, le-ltb}
-use Rattle.std.specs.declared.cmp.Ordering.{Ordering}
-use Rattle.std.specs.declared.cmp.Ordering.TheVariants.{Less, Equal, Greater}
-use Rattle.std.specs.Ordering.{nat_cmp, is_eq, ordering_then}
+use Rattle.std.specs.Ordering.{is_eq}
 use Rattle.std.specs.Cmp.{unsigned_ties}
 use Rattle.std.specs.List.{filter, list_any, list_all}
 use Rattle.std.proofs.lemmas.Cmp.{tied_itself}
 use Rattle.std.proofs.lemmas.List.Elements.{filter_agree}
-use Rattle.std.proofs.lemmas.Map.Lookups.{CmpEqualImpliesEq, exact_unsigned, exact_bytes}
+use Rattle.std.proofs.lemmas.Map.Lookups.{CmpEqualImpliesEq}
 use Rattle.flux_model.specs.Text.{text_cmp}
 use Rattle.flux_model.specs.Ordered.{put, is_in}
 use Rattle.flux_model.specs.Report.{applied, graph_after, next_graph, block_of}
@@ -26,8 +24,9 @@ use Rattle.flux_laws.specs.GraphsLaws.{ChangeKeepsGraph, ChangeKeepsLimits, Refu
 use Rattle.flux_laws.proofs.OneMoreLemmas.{add_edge_ok, in_ids, with_vertex_graph, with_triple_graph, without_triple_graph, without_vertex_graph}
 use Rattle.flux_laws.proofs.LimitLemmas.{with_vertex_within, among, name_count-within, with_triple_within, without_vertex_within, without_triple_within}
 use Rattle.flux_laws.proofs.UndoLemmas.{others, put_out, absent_after, put_back, fewer, holds_there}
-use Rattle.flux_laws.proofs.SetsLemmas.{vertex_total, triple_total}
+use Rattle.flux_laws.proofs.SetsLemmas.{vertex_total, triple_total, same_triple}
 
+-- an accepted change
 abbrev pub okay : Graph → Result Graph Code
 okay g = Ok g
 
@@ -41,39 +40,46 @@ is_not : (b : Bool) → not b ≡ false → b ≡ true
 is_not true e = refl
 is_not false e = cc
 
+-- a vertex was added: its id was new, and there was room
 pub record VertexAdded (limits : Limits) (g h : Graph) (v : Vertex) : Type 0 where
   pub absent : has_vertex g v.id ≡ false
   pub room : (nat_le limits.vertices (length g.vertices) || nat_lt limits.labels (name_count g v.labels)) ≡ false
   pub is : with_vertex g v ≡ h
 
+-- a vertex was removed: it was there, and no triple ended at it
 pub record VertexDropped (g h : Graph) (id : ℕ) : Type 0 where
   pub there : has_vertex g id ≡ true
   pub free : has_incident_triple g id ≡ false
   pub is : without_vertex g id ≡ h
 
+-- an edge was added: its ends were there, the edge was not, and there was room
 pub record EdgeAdded (limits : Limits) (g h : Graph) (t : Triple) : Type 0 where
   pub ends : has_both_ends g t ≡ true
   pub absent : has_triple g t ≡ false
   pub room : (nat_le limits.edges (length g.triples) || nat_lt limits.labels (name_count g (t.label ∷ []))) ≡ false
   pub is : with_triple g t ≡ h
 
+-- an edge was removed: its ends and the edge were there
 pub record EdgeDropped (g h : Graph) (t : Triple) : Type 0 where
   pub ends : has_both_ends g t ≡ true
   pub there : has_triple g t ≡ true
   pub is : without_triple g t ≡ h
 
+-- an accepted AddVertex
 pub vertex_added : (limits : Limits) (g h : Graph) (id : ℕ) (labels : List (List ℕ)) → apply limits g (AddVertex id labels) ≡ Ok h → VertexAdded limits g h (record { id = id; labels = labels })
 vertex_added limits g h id labels e =
     let first = refuse-ok (has_vertex g id) code.Exists _ h e in
     let second = refuse-ok (nat_le limits.vertices (length g.vertices) || nat_lt limits.labels (name_count g labels)) code.Full _ h first.1 in
     record { absent = first.0; room = second.0; is = cc (second.1) }
 
+-- an accepted DropVertex
 pub vertex_dropped : (limits : Limits) (g h : Graph) (id : ℕ) → apply limits g (DropVertex id) ≡ Ok h → VertexDropped g h id
 vertex_dropped limits g h id e =
     let first = refuse-ok (not (has_vertex g id)) code.NoVertex _ h e in
     let second = refuse-ok (has_incident_triple g id) code.Busy _ h first.1 in
     record { there = is_not (has_vertex g id) first.0; free = second.0; is = cc (second.1) }
 
+-- an accepted AddEdge
 pub edge_added : (limits : Limits) (g h : Graph) (t : Triple) → apply limits g (AddEdge t) ≡ Ok h → EdgeAdded limits g h t
 edge_added limits g h t e =
     let first = refuse-ok (not (has_both_ends g t)) code.NoVertex _ h e in
@@ -81,6 +87,7 @@ edge_added limits g h t e =
     let third = refuse-ok (nat_le limits.edges (length g.triples) || nat_lt limits.labels (name_count g (t.label ∷ []))) code.Full _ h second.1 in
     record { ends = is_not (has_both_ends g t) first.0; absent = second.0; room = third.0; is = cc (third.1) }
 
+-- an accepted DropEdge
 pub edge_dropped : (limits : Limits) (g h : Graph) (t : Triple) → apply limits g (DropEdge t) ≡ Ok h → EdgeDropped g h t
 edge_dropped limits g h t e =
     let first = refuse-ok (not (has_both_ends g t)) code.NoVertex _ h e in
@@ -89,6 +96,7 @@ edge_dropped limits g h t e =
 
 -- ---- what a change keeps
 
+-- an accepted change of a graph makes a graph
 pub keeps_graph : ChangeKeepsGraph
 keeps_graph limits g h (AddVertex id labels) graph sound e =
     let a = vertex_added limits g h id labels e in
@@ -103,6 +111,7 @@ keeps_graph limits g h (DropEdge t) graph sound e =
     let a = edge_dropped limits g h t e in
     subst IsGraph a.is (without_triple_graph g t graph)
 
+-- and keeps the limits
 pub keeps_limits : ChangeKeepsLimits
 keeps_limits limits g h (AddVertex id labels) within e =
     let a = vertex_added limits g h id labels e in
@@ -117,6 +126,7 @@ keeps_limits limits g h (DropEdge t) within e =
 
 -- ---- a refusal
 
+-- a refusal changes nothing and is repeated
 pub repeats : RefusalRepeats
 repeats limits patterns k g update c e =
     let same : next_graph limits g (Says update) ≡ g = ap (λ r. graph_after g (applied r)) e in
@@ -125,23 +135,14 @@ repeats limits patterns k g update c e =
 
 -- ---- what one change undoes
 
+-- triples that are equal in their order are the same
 pub triple_exact : CmpEqualImpliesEq triple_cmp
-triple_exact s t e = by (nat_cmp s.src t.src) refl (text_cmp s.label t.label) refl (nat_cmp s.dst t.dst) refl e
-  where
-    by : (a : Ordering) → nat_cmp s.src t.src ≡ a → (b : Ordering) → text_cmp s.label t.label ≡ b → (c : Ordering) → nat_cmp s.dst t.dst ≡ c → ordering_then a (ordering_then b c) ≡ Equal → s ≡ t
-    by Less p b q c r f = cc
-    by Greater p b q c r f = cc
-    by Equal p Less q c r f = cc
-    by Equal p Greater q c r f = cc
-    by Equal p Equal q c r f =
-        let src : s.src ≡ t.src = exact_unsigned s.src t.src p in
-        let label : s.label ≡ t.label = exact_bytes s.label t.label q in
-        let dst : s.dst ≡ t.dst = exact_unsigned s.dst t.dst (r ∙ f) in
-        λ i. record { src = src i; label = label i; dst = dst i }
+triple_exact = same_triple
 
 drop_edge_ok : (g : Graph) (t : Triple) → has_both_ends g t ≡ true → has_triple g t ≡ true → drop_edge g t ≡ Ok (without_triple g t)
 drop_edge_ok g t ends there = rw (ends, there) refl
 
+-- a removal undoes an edge
 pub undo_edge : RemovalUndoesEdge
 undo_edge limits g h t e =
     let a = edge_added limits g h t e in
@@ -168,6 +169,7 @@ add_edge_back limits g t graph within ends there =
     let back : with_triple h t ≡ g = ap (λ ts. record g { triples = ts }) (put_back triple_cmp triple_total triple_exact t g.triples graph.ascending_triples there) in
     add_edge_ok limits h t ends absent (rw (free, named) refl) ∙ ap okay back
 
+-- an insertion undoes its removal
 pub redo_edge : InsertionUndoesEdge
 redo_edge limits g h t graph within e =
     let a = edge_dropped limits g h t e in
@@ -188,12 +190,14 @@ free_id g id (t ∷ ts) absent all =
         by false q = q
         by true q = let same : has_vertex g i ≡ has_vertex g id = ap (has_vertex g) (eqb-true i id q) in cc
 
+-- the vertices of other ids
 pub other_ids : (v : Vertex) (vs : List Vertex) → filter (λ (w : Vertex). not (w.id == v.id)) vs ≡ others vertex_cmp vertex_total v vs
 other_ids v vs = filter_agree (λ (w : Vertex). not (w.id == v.id)) (λ w. not (is_eq (vertex_cmp w v))) (λ w. ap not (unsigned_ties w.id v.id)) vs
 
 drop_vertex_ok : (g : Graph) (id : ℕ) → has_vertex g id ≡ true → has_incident_triple g id ≡ false → drop_vertex g id ≡ Ok (without_vertex g id)
 drop_vertex_ok g id there free = rw (there, free) refl
 
+-- a removal undoes a vertex
 pub undo_vertex : RemovalUndoesVertex
 undo_vertex limits g h id labels graph e =
     let v : Vertex = record { id = id; labels = labels } in

@@ -9,11 +9,11 @@ use Rattle.std.specs.declared.cmp.Ordering.TheVariants.{Less, Equal, Greater}
 use Rattle.std.proofs.lemmas.Bool.{ne_eqb, eqb-true, eqb-false, not-false, both_ways, false_from_ne_true}
 use Rattle.std.proofs.lemmas.Cmp.{tied_itself}
 use Rattle.std.proofs.lemmas.List.Folds.{list_any_at}
-use Rattle.flux_model.specs.Graph.{Graph, vertex_cmp, triple_cmp, has_vertex, has_incident_triple, with_vertex, without_vertex, with_triple, without_triple}
+use Rattle.flux_model.specs.Graph.{Graph, vertex_cmp, triple_cmp, has_vertex, with_vertex, without_vertex}
 use Rattle.flux_model.specs.Labels.{is_within}
 use Rattle.flux_model.specs.Ordered.{put}
 use Rattle.flux_model.specs.Pattern.{PatternGraph, vertex_count, fits, fits_labels}
-use Rattle.flux_model.specs.States.{Joint, joint_of, joined}
+use Rattle.flux_model.specs.States.{Joint, joint_of}
 use Rattle.flux_model.specs.Tree.{QueryTree, link_at, edge_at, BelongsTo}
 use Rattle.flux_model.specs.declared.graph.Triple.{Triple}
 use Rattle.flux_model.specs.declared.graph.Vertex.{Vertex}

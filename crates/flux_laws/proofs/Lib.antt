@@ -12,7 +12,6 @@ pub mod GraphsLemmas
 pub mod JointsLemmas
 pub mod LimitLemmas
 pub mod LinesLemmas
-pub mod ListedLemmas
 pub mod MapsLemmas
 pub mod MatchLemmas
 pub mod MemberLemmas

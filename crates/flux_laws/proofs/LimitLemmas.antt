@@ -54,6 +54,7 @@ name_count-within g h fewer more n =
 
 -- ---- one more
 
+-- one element more at most
 pub length-put : {K : Type 0} (R : K → K → Ordering) (x : K) (xs : List K) → length (put R x xs) ≤ length xs + 1
 length-put R x [] = omega arith
 length-put R x (y ∷ ys) = by (R x y) refl (length-put R x ys)
@@ -69,6 +70,7 @@ room limit count names in_use h =
     let two = neither (nat_le limit count) (nat_lt names in_use) h in
     (omega (arith, leb-false limit count two.0), ltb-false names in_use two.1)
 
+-- a vertex more within the limits
 pub with_vertex_within : (limits : Limits) (g : Graph) (v : Vertex) → IsWithin limits g → (nat_le limits.vertices (length g.vertices) || nat_lt limits.labels (name_count g v.labels)) ≡ false → IsWithin limits (with_vertex g v)
 with_vertex_within limits g v h full =
     let p : List ℕ → Bool = λ x. is_in text_cmp x (names_of g ++ v.labels) in
@@ -86,6 +88,7 @@ with_vertex_within limits g v h full =
       names = omega (arith, fewer, left.1);
     }
 
+-- a triple more
 pub with_triple_within : (limits : Limits) (g : Graph) (t : Triple) → IsWithin limits g → (nat_le limits.edges (length g.triples) || nat_lt limits.labels (name_count g (t.label ∷ []))) ≡ false → IsWithin limits (with_triple g t)
 with_triple_within limits g t h full =
     let p : List ℕ → Bool = λ x. is_in text_cmp x (names_of g ++ t.label ∷ []) in
@@ -105,6 +108,7 @@ with_triple_within limits g t h full =
 
 -- ---- one fewer
 
+-- a vertex fewer
 pub without_vertex_within : (limits : Limits) (g : Graph) (id : ℕ) → IsWithin limits g → IsWithin limits (without_vertex g id)
 without_vertex_within limits g id h =
     let p : List ℕ → Bool = λ x. is_in text_cmp x (names_of g ++ []) in
@@ -122,6 +126,7 @@ without_vertex_within limits g id h =
       names = omega (arith, fewer, h.names);
     }
 
+-- a triple fewer
 pub without_triple_within : (limits : Limits) (g : Graph) (t : Triple) → IsWithin limits g → IsWithin limits (without_triple g t)
 without_triple_within limits g t h =
     let p : List ℕ → Bool = λ x. is_in text_cmp x (names_of g ++ []) in

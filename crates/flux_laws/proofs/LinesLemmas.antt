@@ -22,6 +22,7 @@ text_first : (x : ℕ) (p : List ℕ) (ps : List (List ℕ)) → text_of ((x ∷
 text_first x p [] = refl
 text_first x p (q ∷ ps) = refl
 
+-- the lines give the bytes back
 pub give_back : LinesGiveBack
 give_back [] = refl
 give_back (x ∷ b) = let c = parts-cons b in by (x == 10) refl c.0 c.1 c.2 (give_back b)
@@ -60,6 +61,7 @@ all_but_last-all (p ∷ q ∷ ps) all =
     let rest = all_but_last-all (q ∷ ps) here.1 in
     (rw here.0 rest.0, rest.1)
 
+-- no line has a byte 10
 pub no_end : NoLineHasAnEnd
 no_end bytes = all_but_last-all (parts bytes) (parts-no_end bytes)
 
@@ -90,6 +92,7 @@ all_but_last-cons a b = let c = parts-cons b in rw c.2 refl
 last_part-cons : (a b : List ℕ) → last_part (a ∷ parts b) ≡ last_part (parts b)
 last_part-cons a b = let c = parts-cons b in rw c.2 refl
 
+-- there is one way to cut
 pub unique : CutIsUnique
 unique [] end all none = let e = parts-open end none in (ap all_but_last e, ap last_part e)
 unique (line ∷ ended) end all none =

@@ -52,11 +52,11 @@ record FitsEach (g : Graph) (ls : List (List (List ℕ))) (m : List ℕ) : Type 
   each : length m ≡ length ls
   fits : (u : ℕ) → u < length ls → fits_labels g (get_or ls u []) (get_or m u 0) ≡ true
 
-fits_each : (g : Graph) (ls : List (List (List ℕ))) (m : List ℕ) → pointwise (fits_labels g) ls m ≡ true → FitsEach g ls m
-fits_each g [] [] h = record { each = refl; fits = λ u l. absurd (omega arith) }
-fits_each g [] (i ∷ m) h = cc
-fits_each g (l ∷ ls) [] h = cc
-fits_each g (l ∷ ls) (i ∷ m) h = more (fits_each g ls m two.1)
+fits_at_each_place : (g : Graph) (ls : List (List (List ℕ))) (m : List ℕ) → pointwise (fits_labels g) ls m ≡ true → FitsEach g ls m
+fits_at_each_place g [] [] h = record { each = refl; fits = λ u l. absurd (omega arith) }
+fits_at_each_place g [] (i ∷ m) h = cc
+fits_at_each_place g (l ∷ ls) [] h = cc
+fits_at_each_place g (l ∷ ls) (i ∷ m) h = more (fits_at_each_place g ls m two.1)
   where
     two : (fits_labels g l i ≡ true) × (pointwise (fits_labels g) ls m ≡ true)
     two = both (fits_labels g l i) (pointwise (fits_labels g) ls m) h
@@ -127,6 +127,7 @@ keeps Iso m f = distinct m (f refl)
 
 -- ---- the law
 
+-- the embeddings are exactly the maps
 pub are_maps : EmbeddingsAreMaps
 are_maps q g m = (one, two)
   where
@@ -134,7 +135,7 @@ are_maps q g m = (one, two)
     one e =
         let outer = both (fit_all q g m && keeps_edges q g m) (keeps_mode q.mode m) e in
         let inner = both (fit_all q g m) (keeps_edges q g m) outer.0 in
-        let places = fits_each g q.labels m inner.0 in
+        let places = fits_at_each_place g q.labels m inner.0 in
         record {
           each = places.each;
           vertices = λ u l. has_labelled g (get_or q.labels u []) (get_or m u 0) (places.fits u l);

@@ -101,6 +101,7 @@ length-answers g (q ∷ qs) =
     ∙ ap (λ n. length (embeddings q g) + n) (length-answers g qs)
     ∙ sym (length-append (embeddings q g) (flat_map (λ q. embeddings q g) qs))
 
+-- the last line of a listing counts its answers
 pub counted : EndLineCountsAnswers
 counted g patterns h =
     let answers : List (List ℕ) = answers_of g patterns in

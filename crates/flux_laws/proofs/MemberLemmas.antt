@@ -15,12 +15,15 @@ use Rattle.flux_laws.proofs.TestLemmas.{both, or_right}
 use Rattle.flux_laws.proofs.UndoLemmas.{others, others-absent, absent_above, put_first}
 
 module _ {X : Type 0} where
+  -- the first element is in the list
   pub here : (x : X) (xs : List X) → Contains (x ∷ xs) x
   here x xs = (0, omega arith, refl)
 
+  -- what is in the tail is in the list
   pub there : (y x : X) (xs : List X) → Contains xs y → Contains (x ∷ xs) y
   there y x xs c = (suc c.0, omega (arith, c.1), c.2)
 
+  -- what is in the list is its first element or in its tail
   pub first_or_later : (y x : X) (xs : List X) → Contains (x ∷ xs) y → (y ≡ x) ⊎ Contains xs y
   first_or_later y x xs c = by c.0 c.1 c.2
     where
@@ -28,11 +31,13 @@ module _ {X : Type 0} where
       by zero l e = inl (sym e)
       by (suc k) l e = inr (k, omega arith, e)
 
+  -- nothing is in the empty list
   pub none_in : (y : X) → Contains [] y → ⊥
   none_in y c = absurd (omega (arith, c.1))
 
   -- ---- each element
 
+  -- where all pass, each element does
   pub each_passes : (p : X → Bool) (xs : List X) (y : X) → list_all p xs ≡ true → Contains xs y → p y ≡ true
   each_passes p [] y a c = absurd (none_in y c)
   each_passes p (x ∷ xs) y a c = by (first_or_later y x xs c) (each_passes p xs y)
@@ -44,12 +49,14 @@ module _ {X : Type 0} where
       by (inl e) rest = ap p e ∙ two.0
       by (inr d) rest = rest two.1 d
 
+  -- where each element passes, all do
   pub all_pass : (p : X → Bool) (xs : List X) → ((y : X) → Contains xs y → p y ≡ true) → list_all p xs ≡ true
   all_pass p [] f = refl
   all_pass p (x ∷ xs) f = rw (f x (here x xs)) (all_pass p xs (λ y c. f y (there y x xs c)))
 
   -- ---- some fewer
 
+  -- what is kept was in the list, and passes
   pub was_in : (p : X → Bool) (xs : List X) (y : X) → Contains (filter p xs) y → Contains xs y × (p y ≡ true)
   was_in p [] y c = absurd (none_in y c)
   was_in p (x ∷ xs) y c = by (p x) refl c (was_in p xs y)
@@ -62,6 +69,7 @@ module _ {X : Type 0} where
           at (inr r) = let before = rest r in (there y x xs before.0, before.1)
       by false e d rest = let before = rest d in (there y x xs before.0, before.1)
 
+  -- what was in the list and passes is kept
   pub still_in : (p : X → Bool) (xs : List X) (y : X) → Contains xs y → p y ≡ true → Contains (filter p xs) y
   still_in p [] y c h = absurd (none_in y c)
   still_in p (x ∷ xs) y c h = by (p x) refl (first_or_later y x xs c) (λ d. still_in p xs y d h)
@@ -78,6 +86,7 @@ module _ {X : Type 0} where
 module _ {K : Type 0} (R : K → K → Ordering) (o : IsTotalOrder R) where
   -- ---- one more
 
+  -- after x is put in: what was there, or x
   pub in_or_put : (x : K) (xs : List K) (y : K) → is_in R x xs ≡ false → Contains (put R x xs) y → Contains xs y ⊎ (y ≡ x)
   in_or_put x [] y a c = at (first_or_later y x [] c)
     where
@@ -106,6 +115,7 @@ module _ {K : Type 0} (R : K → K → Ordering) (o : IsTotalOrder R) where
           at (inl q) = inl (subst (λ (w : K). Contains (z ∷ zs) w) (sym q) (here z zs))
           at (inr d) = next (rest (rw e at a) d)
 
+  -- what was there, and x, are there after x is put in
   pub put_in : (x : K) (xs : List K) (y : K) → is_in R x xs ≡ false → Contains xs y ⊎ (y ≡ x) → Contains (put R x xs) y
   put_in x [] y a (inl c) = absurd (none_in y c)
   put_in x [] y a (inr q) = subst (λ (w : K). Contains (x ∷ []) w) (sym q) (here x [])
@@ -136,6 +146,7 @@ module _ {K : Type 0} (R : K → K → Ordering) (o : IsTotalOrder R) where
 
   -- ---- by an order that tells elements apart
 
+  -- what is found is in the list
   pub is_there : CmpEqualImpliesEq R → (x : K) (xs : List K) → is_in R x xs ≡ true → Contains xs x
   is_there exact x [] h = absurd (clash h)
     where
@@ -148,6 +159,7 @@ module _ {K : Type 0} (R : K → K → Ordering) (o : IsTotalOrder R) where
       by Equal e rest = subst (λ (z : K). Contains (y ∷ ys) z) (sym (exact x y e)) (here y ys)
       by Greater e rest = there x y ys (rest (rw e at h))
 
+  -- what is in the list is found
   pub is_found : (x : K) (xs : List K) → Contains xs x → is_in R x xs ≡ true
   is_found x [] c = absurd (none_in x c)
   is_found x (y ∷ ys) c = by (first_or_later x y ys c) (is_found x ys)

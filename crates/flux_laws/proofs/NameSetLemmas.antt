@@ -27,12 +27,14 @@ in_put_all x set (name ∷ names) h = by (text_cmp x name) refl (in_put_all x (p
     by Equal e rest = kept x (put text_cmp name set) names (in-put text_cmp nat_list_cmp_total x name set e)
     by Greater e rest = rest (rw e at h)
 
+-- a test that a set and more names pass is passed by all together
 pub put_all-list_all : (p : List ℕ → Bool) (set names : List (List ℕ)) → list_all p set ≡ true → list_all p names ≡ true → list_all p (put_all set names) ≡ true
 put_all-list_all p set [] s a = s
 put_all-list_all p set (name ∷ names) s a =
     let two = both (p name) (list_all p names) a in
     put_all-list_all p (put text_cmp name set) names (put-list_all text_cmp p name set two.0 s) two.1
 
+-- a set with more names is ascending
 pub put_all-ascending : (set names : List (List ℕ)) → is_ascending text_cmp set ≡ true → is_ascending text_cmp (put_all set names) ≡ true
 put_all-ascending set [] a = a
 put_all-ascending set (name ∷ names) a = put_all-ascending (put text_cmp name set) names (put-ascending text_cmp nat_list_cmp_total name set a)

@@ -26,6 +26,7 @@ in_ids v (w ∷ ws) = (λ i. same i || in_ids v ws i)
 
 -- ---- one more
 
+-- a graph with a vertex more is a graph
 pub with_vertex_graph : (g : Graph) (v : Vertex) → IsGraph g → IsVertex v → IsGraph (with_vertex g v)
 with_vertex_graph g v h is_vertex = record {
   ascending_vertices = put-ascending vertex_cmp vertex_total v g.vertices h.ascending_vertices;
@@ -40,6 +41,7 @@ with_vertex_graph g v h is_vertex = record {
         let two = both (has_vertex g t.src) (has_vertex g t.dst) e in
         rw (put-list_any vertex_cmp (λ (w : Vertex). w.id == t.src) v g.vertices two.0, put-list_any vertex_cmp (λ (w : Vertex). w.id == t.dst) v g.vertices two.1) refl
 
+-- with a triple more
 pub with_triple_graph : (g : Graph) (t : Triple) → IsGraph g → IsText t.label → has_both_ends g t ≡ true → IsGraph (with_triple g t)
 with_triple_graph g t h text ends = record {
   ascending_vertices = h.ascending_vertices;
@@ -55,6 +57,7 @@ add_edge_ok limits g t ends absent full = rw (ends, absent, full) refl
 
 -- ---- one fewer
 
+-- with a triple fewer
 pub without_triple_graph : (g : Graph) (t : Triple) → IsGraph g → IsGraph (without_triple g t)
 without_triple_graph g t h = record {
   ascending_vertices = h.ascending_vertices;
@@ -88,6 +91,7 @@ stays_in id i (v ∷ vs) n h = by (v.id == id) refl (v.id == i) refl (stays_in i
         true_is_false a b = cc
     by true e false f rest = rw e (rest (rw f at h))
 
+-- with a vertex fewer that no triple ends at
 pub without_vertex_graph : (g : Graph) (id : ℕ) → IsGraph g → has_incident_triple g id ≡ false → IsGraph (without_vertex g id)
 without_vertex_graph g id h free = record {
   ascending_vertices = filter-ascending vertex_cmp vertex_total others g.vertices h.ascending_vertices;

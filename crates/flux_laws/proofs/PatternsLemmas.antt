@@ -256,6 +256,7 @@ file_keeps limits bytes qs e = by (read_patterns limits saids) refl e
 
 -- ---- the laws
 
+-- an accepted pattern file makes patterns
 pub makes_patterns : PatternFileMakesPatterns
 makes_patterns limits bytes qs fair e = All-from_recursion IsPattern qs (all-weaker (IsComplete limits) IsPattern pattern qs (file_keeps limits bytes qs e).each)
   where
@@ -272,9 +273,11 @@ makes_patterns limits bytes qs fair e = All-from_recursion IsPattern qs (all-wea
       connected = c.connected;
     }
 
+-- no two have one name
 pub names_differ : PatternFileNamesDiffer
 names_differ limits bytes qs e = (file_keeps limits bytes qs e).names
 
+-- within the limits
 pub within_limits : PatternFileKeepsLimits
 within_limits limits bytes qs e =
     let all = file_keeps limits bytes qs e in

@@ -7,6 +7,7 @@ use Rattle.flux_laws.specs.LinesLaws.{has_no_end, ended_text, is_plain, LinesAre
 use Rattle.flux_laws.proofs.LinesLemmas.{unique}
 use Rattle.flux_laws.proofs.TestLemmas.{both}
 
+-- what passes a test passes a weaker one
 pub list_all-weaker : {K : Type 0} (p q : K → Bool) → ((x : K) → p x ≡ true → q x ≡ true) → (xs : List K) → list_all p xs ≡ true → list_all q xs ≡ true
 list_all-weaker p q f [] a = refl
 list_all-weaker p q f (x ∷ xs) a =
@@ -40,6 +41,7 @@ all_plain n (line ∷ ls) h =
     let rest = all_plain n ls parts.1 in
     λ i. first i ∷ rest i
 
+-- lines are read back
 pub plain_lines : LinesAreReadBack
 plain_lines n ls h =
     lines-cut n ls
@@ -89,5 +91,6 @@ text-returns (line ∷ ls) =
     ap (λ l. (line ++ 13 ∷ 10 ∷ []) ++ l) (text-returns ls)
     ∙ ap (λ l. l ++ ended_text (map with_return ls)) (sym (append_assoc line (13 ∷ []) (10 ∷ [])))
 
+-- a byte 13 at a line's end is dropped
 pub returns_dropped : ReturnsAreDropped
 returns_dropped n ls h = let all = all_returns n ls h in ap (lines n) (text-returns ls) ∙ lines-cut n (map with_return ls) all.0 ∙ all.1

@@ -27,6 +27,7 @@ use Rattle.flux_laws.proofs.NameSetLemmas.{put_all-list_all, put_all-ascending}
 
 -- what each sound line keeps, all of them keep
 module _ {S L : Type 0} (P : S → Type 0) (Good : L → Type 0) (take : ℕ → S → L → Result S Bad) where
+  -- what each accepted line keeps, an accepted file keeps
   pub read_keeps : ((k : ℕ) (s t : S) (line : L) → Good line → P s → take k s line ≡ Ok t → P t)
       → (k : ℕ) (s t : S) (ls : List L) → AllByRecursion Good ls → P s → read_from take k s ls ≡ Ok t → P t
   read_keeps step k s t [] all p e = let same : s ≡ t = cc in subst P same p
@@ -36,6 +37,7 @@ module _ {S L : Type 0} (P : S → Type 0) (Good : L → Type 0) (take : ℕ →
       by (Ok next) q f rest = rest next (step k s next line all.0 p q) f
       by (Err bad) q f rest = cc
 
+-- what holds of each reading holds of all
 pub all-map : {K L : Type 0} (Good : L → Type 0) (read : K → L) → ((x : K) → Good (read x)) → (xs : List K) → AllByRecursion Good (map read xs)
 all-map Good read f [] = tt
 all-map Good read f (x ∷ xs) = (f x, all-map Good read f xs)
@@ -49,16 +51,19 @@ Saying P (Refused c) = Unit {0}
 Saying P (Says x) = P x
 
 module _ {T : Type 0} (P : T → Type 0) where
+  -- what both cases say
   pub either_way : (b : Bool) (x y : Said T) → (b ≡ true → Saying P x) → (b ≡ false → Saying P y) → Saying P (cond b x y)
   either_way true x y f g = f refl
   either_way false x y f g = g refl
 
+  -- what a form with a number says
   pub number_said : (word : List ℕ) (next : ℕ → Said T) → ((n : ℕ) → n < 2 ^ 32 → Saying P (next n)) → Saying P (with_number word next)
   number_said word next f = either_way (is_number word) (next (digits_value word)) (Refused code.Number) (λ e. f (digits_value word) (small e)) (λ e. tt)
     where
       small : is_number word ≡ true → digits_value word < 2 ^ 32
       small e = ltb-true (digits_value word) 4294967296 (both (nat_le 1 (length word) && nat_le (length word) 10 && list_all is_digit word) (nat_lt (digits_value word) 4294967296) e).1
 
+  -- what a form with labels says
   pub labels_said : (words : List (List ℕ)) (next : Said T) → (list_all is_text words ≡ true → Saying P next) → Saying P (with_labels words next)
   labels_said words next f = either_way (list_all is_text words) next (Refused code.Label) f (λ e. tt)
 
@@ -75,6 +80,7 @@ module _ {T : Type 0} (P : T → Type 0) where
     texts = put_all-list_all is_text [] names refl texts;
   }
 
+  -- what a vertex form says
   pub vertex_said : (make : ℕ → List (List ℕ) → T) → ((n : ℕ) (labels : List (List ℕ)) → n < 2 ^ 32 → IsLabelSet labels → P (make n labels)) → (words : List (List ℕ)) → Saying P (read_vertex make words)
   vertex_said make f [] = tt
   vertex_said make f (id ∷ labels) =
@@ -83,6 +89,7 @@ module _ {T : Type 0} (P : T → Type 0) where
       (λ n small. labels_said labels (Says (make n (label_set labels)))
       (λ texts. f n (label_set labels) small (label_set-set labels (ltb-false most_labels (length labels) e) texts))))
 
+  -- what an edge form says
   pub edge_said : (make : ℕ → List ℕ → ℕ → T) → ((s : ℕ) (label : List ℕ) (d : ℕ) → IsText label → P (make s label d)) → (words : List (List ℕ)) → Saying P (read_edge make words)
   edge_said make f [] = tt
   edge_said make f (from ∷ []) = tt
@@ -93,6 +100,7 @@ module _ {T : Type 0} (P : T → Type 0) where
       (λ d b. labels_said (label ∷ []) (Says (make s label d)) (λ texts. f s label d (both (is_text label) true texts).0)))
   edge_said make f (from ∷ to ∷ label ∷ more ∷ words) = tt
 
+  -- what the words of a line say
   pub words_said : (form : List ℕ → List (List ℕ) → Said T) → ((word : List ℕ) (others : List (List ℕ)) → Saying P (form word others)) → (words : List (List ℕ)) → Saying P (read_words form words)
   words_said form f [] = tt
   words_said form f (word ∷ others) = either_way (is_comment word) Nothing (form word others) (λ e. tt) (λ e. f word others)
@@ -106,6 +114,7 @@ graph_form word others =
     (λ e. either_way IsSound (bytes_eq word (codes "e")) (read_edge added_edge others) (Refused code.Word)
     (λ d. edge_said IsSound added_edge (λ s label d text. text) others) (λ d. tt))
 
+-- a line of a graph file says what may stand in a graph
 pub graph_line : (line : InputLine) → Saying IsSound (graph_reading line)
 graph_line long = tt
 graph_line (held bytes) = words_said IsSound read_graph_form graph_form (words_of bytes)
@@ -137,6 +146,7 @@ pattern_form word others =
     (λ d. either_way IsSoundPart (bytes_eq word (codes "e")) (read_edge pattern_edge others) (Refused code.Word)
     (λ c. edge_said IsSoundPart pattern_edge (λ s label d text. text) others) (λ c. tt)))
 
+-- a line of a pattern file says what may stand in a pattern
 pub pattern_line : (line : InputLine) → Saying IsSoundPart (pattern_reading line)
 pattern_line long = tt
 pattern_line (held bytes) = words_said IsSoundPart read_pattern_form pattern_form (words_of bytes)

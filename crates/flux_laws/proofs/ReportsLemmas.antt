@@ -43,6 +43,7 @@ lines-append n first second none =
     ∙ append_assoc (whole n first) (whole n second) (last_line n (open_end second))
     ∙ ap (λ ls. ls ++ lines n second) (sym last)
 
+-- the blocks of lines in two parts
 pub blocks-append : (limits : Limits) (patterns : List PatternGraph) (g : Graph) (xs ys : List (Said Update)) (k : ℕ)
     → blocks limits patterns g (xs ++ ys) k ≡ blocks limits patterns g xs k ++ blocks limits patterns (graph_after_all limits g xs) ys (length xs + k)
 blocks-append limits patterns g [] ys k = ap (blocks limits patterns g ys) (omega arith)
@@ -51,6 +52,7 @@ blocks-append limits patterns g (x ∷ xs) ys k =
     ∙ sym (append_assoc (block limits k patterns g x) (blocks limits patterns (next_graph limits g x) xs (suc k)) (blocks limits patterns (graph_after_all limits (next_graph limits g x) xs) ys (length xs + suc k)))
     ∙ ap (λ n. (block limits k patterns g x ++ blocks limits patterns (next_graph limits g x) xs (suc k)) ++ blocks limits patterns (graph_after_all limits (next_graph limits g x) xs) ys n) (omega arith)
 
+-- the blocks of bytes in two parts
 pub in_parts : BlocksInParts
 in_parts limits patterns g first second none =
     let xs : List InputLine = lines limits.line_bytes first in

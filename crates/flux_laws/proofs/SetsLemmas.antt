@@ -6,7 +6,8 @@ use Rattle.std.specs.Ordering.{is_lt, is_eq, nat_cmp, ordering_then, ordering_re
 use Rattle.std.specs.Cmp.{IsTotalOrder}
 use Rattle.std.specs.Cmp.Lexicographic.{nat_list_cmp_total}
 use Rattle.std.specs.List.{Contains}
-use Rattle.std.proofs.lemmas.Cmp.{nat_cmp_total, on_total, then_total, tied_itself, alike_right, ranked}
+use Rattle.std.proofs.lemmas.Cmp.{nat_cmp_total, on_total, then_total, tied_itself, alike_right}
+use Rattle.std.proofs.lemmas.Map.Lookups.{exact_bytes, exact_unsigned}
 use Rattle.flux_model.specs.Text.{text_cmp}
 use Rattle.flux_model.specs.Ordered.{is_ascending, is_in, put}
 use Rattle.flux_model.specs.Labels.{put_all, label_set}
@@ -27,9 +28,11 @@ or_swap true false c = refl
 or_swap false b c = refl
 
 module _ {K : Type 0} (R : K → K → Ordering) (o : IsTotalOrder R) where
+  -- a put keeps the order
   pub keeps_order : PutKeepsOrder R
   keeps_order = put-ascending R o
 
+  -- a put adds that element alone
   pub adds_one : PutAddsOne R
   adds_one x y [] = refl
   adds_one x y (z ∷ zs) = by (R y z) refl (adds_one x y zs)
@@ -53,13 +56,14 @@ module _ {K : Type 0} (R : K → K → Ordering) (o : IsTotalOrder R) where
         by Equal q h ih = (0, omega arith, sym (same x y q))
         by Greater q h ih = later (ih h)
 
-    found : (x : K) (xs : List K) (k : ℕ) → k < length xs → get_or xs k x ≡ x → is_in R x xs ≡ true
-    found x [] k l e = absurd (omega arith)
-    found x (y ∷ ys) zero l e = rw (ap (R x) e ∙ tied_itself o x) refl
-    found x (y ∷ ys) (suc k) l e = or_right (is_eq (R x y)) (is_in R x ys) (found x ys k (omega arith) e)
+    in_at_place : (x : K) (xs : List K) (k : ℕ) → k < length xs → get_or xs k x ≡ x → is_in R x xs ≡ true
+    in_at_place x [] k l e = absurd (omega arith)
+    in_at_place x (y ∷ ys) zero l e = rw (ap (R x) e ∙ tied_itself o x) refl
+    in_at_place x (y ∷ ys) (suc k) l e = or_right (is_eq (R x y)) (is_in R x ys) (in_at_place x ys k (omega arith) e)
 
+    -- the test tells membership
     pub membership : IsInIsMembership R
-    membership x xs = (element x xs, λ at. found x xs at.0 at.1 at.2)
+    membership x xs = (element x xs, λ at. in_at_place x xs at.0 at.1 at.2)
 
     -- ---- one ascending list for some elements
 
@@ -120,6 +124,7 @@ module _ {K : Type 0} (R : K → K → Ordering) (o : IsTotalOrder R) where
                 let there = q y (first_in y ys) in
                 cc
 
+    -- ascending lists with the same elements are one
     pub determined : IsDeterminedByMembers R
     determined xs ys a b members =
         alike xs ys a b (λ z h. (membership z ys).1 ((members z).0 ((membership z xs).0 h)))
@@ -127,39 +132,29 @@ module _ {K : Type 0} (R : K → K → Ordering) (o : IsTotalOrder R) where
 
 -- ---- the orders
 
+-- vertices are ordered by id
 pub vertex_total : IsTotalOrder vertex_cmp
 vertex_total = on_total (λ (v : Vertex). v.id) nat_cmp_total
 
+-- triples are totally ordered
 pub triple_total : IsTotalOrder triple_cmp
 triple_total =
     then_total (on_total (λ (t : Triple). t.src) nat_cmp_total)
     (then_total (on_total (λ (t : Triple). t.label) nat_list_cmp_total) (on_total (λ (t : Triple). t.dst) nat_cmp_total))
 
-same_number : (x y : ℕ) → nat_cmp x y ≡ Equal → x ≡ y
-same_number x y e = ranked x y Equal (sym e)
+then_equal : (r s : Ordering) → ordering_then r s ≡ Equal → (r ≡ Equal) × (s ≡ Equal)
+then_equal Less s e = cc
+then_equal Equal s e = (refl, e)
+then_equal Greater s e = cc
 
-both_equal : (r s : Ordering) → ordering_then r s ≡ Equal → (r ≡ Equal) × (s ≡ Equal)
-both_equal Less s e = cc
-both_equal Equal s e = (refl, e)
-both_equal Greater s e = cc
-
-pub same_text : (x y : List ℕ) → text_cmp x y ≡ Equal → x ≡ y
-same_text [] [] e = refl
-same_text [] (y ∷ ys) e = cc
-same_text (x ∷ xs) [] e = cc
-same_text (x ∷ xs) (y ∷ ys) e =
-    let parts = both_equal (nat_cmp x y) (text_cmp xs ys) e in
-    let first = same_number x y parts.0 in
-    let rest = same_text xs ys parts.1 in
-    λ i. first i ∷ rest i
-
+-- triples that are equal in their order are the same
 pub same_triple : (s t : Triple) → triple_cmp s t ≡ Equal → s ≡ t
 same_triple s t e =
-    let outer = both_equal (nat_cmp s.src t.src) (ordering_then (text_cmp s.label t.label) (nat_cmp s.dst t.dst)) e in
-    let inner = both_equal (text_cmp s.label t.label) (nat_cmp s.dst t.dst) outer.1 in
-    let src = same_number s.src t.src outer.0 in
-    let label = same_text s.label t.label inner.0 in
-    let dst = same_number s.dst t.dst inner.1 in
+    let outer = then_equal (nat_cmp s.src t.src) (ordering_then (text_cmp s.label t.label) (nat_cmp s.dst t.dst)) e in
+    let inner = then_equal (text_cmp s.label t.label) (nat_cmp s.dst t.dst) outer.1 in
+    let src = exact_unsigned s.src t.src outer.0 in
+    let label = exact_bytes s.label t.label inner.0 in
+    let dst = exact_unsigned s.dst t.dst inner.1 in
     λ i. record { src = src i; label = label i; dst = dst i }
 
 -- ---- label sets
@@ -168,6 +163,7 @@ put_all-ascending : (set names : List (List ℕ)) → is_ascending text_cmp set 
 put_all-ascending set [] a = a
 put_all-ascending set (name ∷ names) a = put_all-ascending (put text_cmp name set) names (put-ascending text_cmp nat_list_cmp_total name set a)
 
+-- a label set is ascending
 pub label_set_ascending : LabelSetIsAscending
 label_set_ascending names = put_all-ascending [] names refl
 
@@ -177,6 +173,7 @@ or_move true false c = refl
 or_move false true c = refl
 or_move false false c = refl
 
+-- what is in a set with more names is in the set or among those
 pub in_put_all : (x : List ℕ) (set names : List (List ℕ)) → is_in text_cmp x (put_all set names) ≡ (is_in text_cmp x names || is_in text_cmp x set)
 in_put_all x set [] = refl
 in_put_all x set (name ∷ names) =
@@ -188,9 +185,11 @@ or_false : (b : Bool) → b || false ≡ b
 or_false true = refl
 or_false false = refl
 
+-- the test tells membership of names
 pub text_membership : IsInIsMembership text_cmp
-text_membership = membership text_cmp nat_list_cmp_total same_text
+text_membership = membership text_cmp nat_list_cmp_total exact_bytes
 
+-- a label set has the names
 pub label_set_members : LabelSetHasTheNames
 label_set_members names name =
     let e : is_in text_cmp name (label_set names) ≡ is_in text_cmp name names = in_put_all name [] names ∙ or_false (is_in text_cmp name names) in

@@ -222,6 +222,7 @@ module _ (limits : Limits) (g : Graph) (is : IsGraph g) (within : IsWithin limit
       ap (result_and_then (λ next. read_from take_line (suc k) next (map says_triple rest))) (step_triple k front t rest e)
       ∙ read_triples (suc k) (front ++ t ∷ []) rest (e ∙ sym (append_assoc front (t ∷ []) rest))
 
+-- the text of a graph makes the graph again
 pub graph_read_back : GraphIsReadBack
 graph_read_back limits g is within room =
     let vs : List (Said Update) = map says_vertex g.vertices in

@@ -131,6 +131,7 @@ zero_touched edges n whole ends more =
     by several true e = e
     by several false e = absurd (omega (arith, zero_alone edges n n 1 e (member edges n 1 whole several)))
 
+-- each vertex of such a pattern is the end of an edge
 pub all_touched : (q : PatternGraph) → IsPattern q → HasMore q → (u : ℕ) → u < vertex_count q → list_any (touches u) q.edges ≡ true
 all_touched q p more u h =
     let n : ℕ = vertex_count q in

@@ -28,12 +28,14 @@ module _ {K : Type 0} (R : K → K → Ordering) (o : IsTotalOrder R) where
   below : (x y : K) → R x y ≡ Greater → R y x ≡ Less
   below x y e = o.antisymm y x ∙ ap ordering_reverse e
 
+  -- nothing is taken out of a list that lacks the element
   pub others-absent : (x : K) (xs : List K) → is_in R x xs ≡ false → others x xs ≡ xs
   others-absent x [] e = refl
   others-absent x (y ∷ ys) e =
       let two = neither (is_eq (R x y)) (is_in R x ys) e in
       rw (turned x y ∙ two.0) (ap (λ l. y ∷ l) (others-absent x ys two.1))
 
+  -- put in and taken out again
   pub put_out : (x : K) (xs : List K) → is_in R x xs ≡ false → others x (put R x xs) ≡ xs
   put_out x [] e = rw (tied_itself o x) refl
   put_out x (y ∷ ys) e = by (R x y) refl (put_out x ys)
@@ -43,6 +45,7 @@ module _ {K : Type 0} (R : K → K → Ordering) (o : IsTotalOrder R) where
       by Equal q rest = let f = in-equal R x y ys q in cc
       by Greater q rest = rw (q, below x y q) (ap (λ l. y ∷ l) (rest (sym (in-greater R x y ys q) ∙ e)))
 
+  -- what is taken out is not there
   pub absent_after : (x : K) (xs : List K) → is_in R x (others x xs) ≡ false
   absent_after x [] = refl
   absent_after x (y ∷ ys) = by (R x y) refl (absent_after x ys)
@@ -59,10 +62,12 @@ module _ {K : Type 0} (R : K → K → Ordering) (o : IsTotalOrder R) where
       let two = both (is_lt (R x y)) (is_ascending R (y ∷ ys)) a in
       in-less R o x y ys two.1 (less R o (R x y) two.0)
 
+  -- what is below all goes to the front
   pub put_first : (x : K) (xs : List K) → is_ascending R (x ∷ xs) ≡ true → put R x xs ≡ x ∷ xs
   put_first x [] a = refl
   put_first x (y ∷ ys) a = put-less R x y ys (less R o (R x y) (both (is_lt (R x y)) (is_ascending R (y ∷ ys)) a).0)
 
+  -- taken out and put in again
   pub put_back : CmpEqualImpliesEq R → (x : K) (xs : List K) → is_ascending R xs ≡ true → is_in R x xs ≡ true → put R x (others x xs) ≡ xs
   put_back exact x [] a there = cc
   put_back exact x (y ∷ ys) a there = by (R x y) refl (put_back exact x ys)
@@ -76,6 +81,7 @@ module _ {K : Type 0} (R : K → K → Ordering) (o : IsTotalOrder R) where
           (ap (put R x) (others-absent x ys (absent_above x ys up)) ∙ put_first x ys up ∙ ap (λ z. z ∷ ys) (sym same))
       by Greater q rest = rw (below x y q, q) (ap (λ l. y ∷ l) (rest (tail_ascending R o y ys a) (sym (in-greater R x y ys q) ∙ there)))
 
+  -- one element fewer at least
   pub fewer : (x : K) (xs : List K) → is_in R x xs ≡ true → length (others x xs) + 1 ≤ length xs
   fewer x [] there = cc
   fewer x (y ∷ ys) there = by (R x y) refl (fewer x ys)

@@ -56,6 +56,7 @@ saved_file limits file g e room few =
     accepted_as limits.input_bytes front (graph_of limits) BadGraph (graph_text g) g few
     (graph_read_back limits g (makes_graph limits was.0 g was.1) (within_limits limits was.0 g was.1) room)
 
+-- the saved file is accepted as the same
 pub saved_accepted : (limits : Limits) (files saved : Files) (shape : Shape) (g : Graph) → graph_file limits (files (graph_name shape)) ≡ Ok g → longest_line ≤ limits.line_bytes
     → length (graph_text g) ≤ limits.input_bytes → saved (graph_name shape) ≡ Some (graph_text g) → HaveSamePatterns files saved shape
     → accepted limits saved shape ≡ accepted limits files shape
@@ -67,6 +68,7 @@ saved_accepted limits files saved shape g e room few at same = by shape (ap (gra
     by (Match graph patterns) graphs names = rw (graphs, names) refl
     by (Save graph) graphs names = rw graphs refl
 
+-- the run ends the same
 pub saved_the_same : SavedGraphWritesTheSame
 saved_the_same limits files saved shape g s e room few at same =
     ap (ends_with (ending_with limits s)) (saved_accepted limits files saved shape g e room few at same)
@@ -89,10 +91,12 @@ cut_behind b c =
     let cut = cut_in_parts (ended b) (open_end b ++ c) none in
     (ap (λ l. all_but_last (parts l)) split ∙ cut.0 ∙ ap (λ l. l ++ all_but_last (parts (open_end b ++ c))) kept, ap open_end split ∙ cut.1)
 
+-- the whole lines of bytes in two parts
 pub whole-front : (n : ℕ) (b c : List ℕ) → whole n (b ++ c) ≡ whole n b ++ whole n (open_end b ++ c)
 whole-front n b c =
     ap (map (line_of n)) (cut_behind b c).0 ∙ map-append (line_of n) (all_but_last (parts b)) (all_but_last (parts (open_end b ++ c)))
 
+-- all lines of bytes in two parts
 pub lines-front : (n : ℕ) (b c : List ℕ) → lines n (b ++ c) ≡ whole n b ++ lines n (open_end b ++ c)
 lines-front n b c =
     ap (λ ls. ls ++ last_line n (open_end (b ++ c))) (whole-front n b c)
@@ -116,9 +120,11 @@ front_refuses take_line start read n k bytes bad e =
     ∙ ap (λ ls. read_from take_line 1 start (map read ls)) (lines-front n (take k bytes) (drop k bytes))
     ∙ refused_before take_line start read (whole n (take k bytes)) (lines n (open_end (take k bytes) ++ drop k bytes)) bad e
 
+-- a graph file that is refused in its front
 pub graph_refused : FrontRefusesGraphFile
 graph_refused limits bytes k bad e = front_refuses (graph_after_line limits) empty_graph graph_reading limits.line_bytes k bytes bad e
 
+-- a pattern file that is refused in its front
 pub patterns_refused : FrontRefusesPatternFile
 patterns_refused limits bytes k bad e =
     ap (result_and_then close) (front_refuses (patterns_after_line limits) empty_draft pattern_reading limits.line_bytes k bytes bad e)
@@ -167,6 +173,7 @@ front_of_either : (test : Bool) (front : List ℕ) (x y : Ending) → IsFrontOf 
 front_of_either true front x y a b = a
 front_of_either false front x y a b = b
 
+-- what is written before a read fails is a front
 pub written : WrittenBeforeIsFront
 written limits (Watched g qs) r s (rest, e) few =
     subst (λ all. IsFrontOf (written_before limits (Watched g qs) r) (ending_with limits all (Watched g qs)).text) (sym e)

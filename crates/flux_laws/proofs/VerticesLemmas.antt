@@ -20,7 +20,7 @@ use Rattle.flux_laws.specs.VerticesLaws.{AddedVertexChangesNoEmbedding, DroppedV
 use Rattle.flux_laws.proofs.SetsLemmas.{same_triple}
 use Rattle.flux_laws.proofs.TouchedLemmas.{touches, all_touched}
 use Rattle.flux_laws.proofs.TestLemmas.{both, either, or_right, eqb-refl}
-use Rattle.flux_laws.proofs.ListedLemmas.{fit-ids, listed}
+use Rattle.flux_laws.proofs.EmbeddingsLemmas.{embedding_listed}
 
 -- ---- each id of an embedding is the end of a triple
 
@@ -88,12 +88,19 @@ fit-kept ts vs ws keeps (l ∷ ls) (v ∷ m) ends h =
     let here : fits_labels (graph_of ws ts) l v ≡ true = keeps l v end.0 parts.0 in
     rw here (fit-kept ts vs ws keeps ls m end.1 parts.1)
 
+-- what fits has an id for each vertex
+fit-length : (g : Graph) (ls : List (List (List ℕ))) (m : List ℕ) → pointwise (fits_labels g) ls m ≡ true → length m ≡ length ls
+fit-length g [] [] h = refl
+fit-length g [] (v ∷ m) h = cc
+fit-length g (l ∷ ls) [] h = cc
+fit-length g (l ∷ ls) (v ∷ m) h = ap suc (fit-length g ls m (both (fits_labels g l v) (pointwise (fits_labels g) ls m) h).1)
+
 embedding-kept : (q : PatternGraph) (ts : List Triple) (vs ws : List Vertex) → ((u : ℕ) → u < vertex_count q → list_any (touches u) q.edges ≡ true)
     → KeepsEnds ts vs ws → (m : List ℕ) → is_embedding q (graph_of vs ts) m ≡ true → is_embedding q (graph_of ws ts) m ≡ true
 embedding-kept q ts vs ws touched keeps m h =
     let all = both (fit_all q (graph_of vs ts) m && keeps_edges q (graph_of vs ts) m) (keeps_mode q.mode m) h in
     let kept = both (fit_all q (graph_of vs ts) m) (keeps_edges q (graph_of vs ts) m) all.0 in
-    let len = (fit-ids (graph_of vs ts) q.labels m kept.0).1 in
+    let len = fit-length (graph_of vs ts) q.labels m kept.0 in
     let ends : list_all (is_end ts) m ≡ true =
     at_each_place (is_end ts) m (λ k l. end_of_edge k m ts q.edges (touched k (omega arith)) kept.1) in
     let fit : fit_all q (graph_of ws ts) m ≡ true = fit-kept ts vs ws keeps q.labels m ends kept.0 in
@@ -111,7 +118,7 @@ none_more : (q : PatternGraph) (ts : List Triple) (vs ws : List Vertex) → ((u 
     → KeepsEnds ts vs ws → without (embeddings q (graph_of vs ts)) (embeddings q (graph_of ws ts)) ≡ []
 none_more q ts vs ws touched keeps =
     filter_none (λ m. not (list_any (same_map m) (embeddings q (graph_of ws ts)))) (is_embedding q (graph_of vs ts))
-    (λ m h. ap not (listed q (graph_of ws ts) m (embedding-kept q ts vs ws touched keeps m h)))
+    (λ m h. ap not (embedding_listed q (graph_of ws ts) m (embedding-kept q ts vs ws touched keeps m h)))
     (id_lists (ids (graph_of vs ts)) (vertex_count q))
 
 -- ---- one vertex more
@@ -180,6 +187,7 @@ added q g v touched is absent = (
         let other : (v.id == id) ≡ false = other_id (has_vertex g) v.id id absent (end_is_vertex g g.triples id is.ends end) in
         any-put (λ (w : Vertex). w.id == id && is_within labels w.labels) v g.vertices (ap (λ b. b && is_within labels v.labels) other) h
 
+-- a vertex that comes changes no embedding
 pub added_nothing : AddedVertexChangesNoEmbedding
 added_nothing limits q old new id labels pattern more graph is =
     by (has_vertex old id) refl (nat_le limits.vertices (length old.vertices) || nat_lt limits.labels (name_count old labels)) refl is
@@ -237,6 +245,7 @@ dropped q g id touched free = (
             by false f k = f
             by true f k = let at : is_end g.triples w.id ≡ is_end g.triples id = ap (is_end g.triples) (eqb-true w.id id f) in cc
 
+-- a vertex that goes changes none
 pub dropped_nothing : DroppedVertexChangesNoEmbedding
 dropped_nothing limits q old new id pattern more is = by (has_vertex old id) refl (has_incident_triple old id) refl is
   where

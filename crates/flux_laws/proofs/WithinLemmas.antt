@@ -29,6 +29,7 @@ module _ {K : Type 0} (R : K → K → Ordering) (o : IsTotalOrder R) where
       by true e = ap (λ l. y ∷ l) e
       by false e = e
 
+  -- an ascending list within another is what a filter keeps of it
   pub within-filter : CmpEqualImpliesEq R → (xs ys : List K) → is_ascending R xs ≡ true → is_ascending R ys ≡ true → list_all (λ x. is_in R x ys) xs ≡ true → filter (λ y. is_in R y xs) ys ≡ xs
   within-filter exact [] ys a b w = none_of ys
   within-filter exact (x ∷ xs) [] a b w = cc

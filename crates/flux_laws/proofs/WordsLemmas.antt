@@ -40,6 +40,7 @@ split-words (c ∷ cs) = by (is_blank c) refl (split-words cs)
     by true e ih = rw (split-blank c cs e) (refl, with_word-words (split_words cs).first (split_words cs).others ih.0 ih.1)
     by false e ih = rw (split-other c cs e) (rw e ih.0, ih.1)
 
+-- no word has a blank
 pub no_blank : NoBlankInWords
 no_blank bytes = let h = split-words bytes in with_word-words (split_words bytes).first (split_words bytes).others h.0 h.1
 
@@ -54,6 +55,7 @@ split-word (c ∷ cs) h = by (is_blank c) refl h (split-word cs)
     by true e k ih = cc
     by false e k ih = split-other c cs e ∙ ap (λ (w : Words). record { first = c ∷ w.first; others = w.others }) (ih k)
 
+-- a word is read
 pub word_read : WordIsRead
 word_read [] h = cc
 word_read (c ∷ cs) h = ap (λ (w : Words). with_word w.first w.others) (split-word (c ∷ cs) (both (nat_lt 0 (suc (length cs))) (has_no_blank (c ∷ cs)) h).1)
@@ -83,11 +85,13 @@ split-append (c ∷ cs) after blank e = by (is_blank c) refl (split-append cs af
         ∙ ap (λ (w : Words). record { first = c ∷ w.first; others = w.others }) ih
         ∙ ap (followed (words_of after)) (sym (split-other c cs q))
 
+-- the words of a text in two parts
 pub in_parts : WordsInParts
 in_parts before after blank e =
     ap (λ (w : Words). with_word w.first w.others) (split-append before after blank e)
     ∙ with_word-append (split_words before).first (split_words before).others (words_of after)
 
+-- words are read back
 pub read_back : WordsAreReadBack
 read_back [] h = refl
 read_back (w ∷ []) h = word_read w (both (is_word w) true h).0
@@ -114,6 +118,7 @@ onto-digits (suc k) n acc h =
     either true xs ys p q = p
     either false xs ys p q = q
 
+-- a decimal is digits
 pub decimal_digits : DecimalIsDigits
 unfolding digits
 decimal_digits n = onto-digits 64 n [] refl
@@ -128,11 +133,13 @@ folds = record {
   more = λ n c cs range. ap (λ m. value_after m cs) (omega arith);
 }
 
+-- a decimal is read back
 pub decimal_read_back : DecimalIsReadBack
 decimal_read_back n small =
     let numeral = decimal_is_IsNumeral_wide n small in
     (numerals_by_fold (AllDigits 10) tells_digits value_after folds).same (decimal n) numeral.0.1 ∙ numeral.1
 
+-- an id is a number
 pub id_number : IdIsANumber
 id_number id small =
     let wide : id < 10 ^ 64 = omega arith in

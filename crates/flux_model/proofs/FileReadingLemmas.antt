@@ -8,6 +8,7 @@ pub and_then-same : {S T E : Type 0} (f g : S → Result T E) (r : Result S E) �
 and_then-same f g (Ok s) same = same s
 and_then-same f g (Err e) same = refl
 
+-- three steps, of which each may refuse, in either grouping
 pub and_then-assoc : {S T U E : Type 0} (f : S → Result T E) (g : T → Result U E) (r : Result S E)
     → result_and_then g (result_and_then f r) ≡ result_and_then (λ s. result_and_then g (f s)) r
 and_then-assoc f g (Ok s) = refl

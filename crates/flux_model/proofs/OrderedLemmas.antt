@@ -9,18 +9,23 @@ use Rattle.std.proofs.lemmas.List.{drop_more, take_more, drop_all, take-append-d
 use Rattle.flux_model.specs.Ordered.{is_ascending, is_in, put}
 
 module _ {K : Type 0} (R : K → K → Ordering) where
+  -- an element below the first goes to the front
   pub put-less : (x y : K) (ys : List K) → R x y ≡ Less → put R x (y ∷ ys) ≡ x ∷ y ∷ ys
   put-less x y ys e = rw e refl
 
+  -- an element that is equal to the first is not put in again
   pub put-equal : (x y : K) (ys : List K) → R x y ≡ Equal → put R x (y ∷ ys) ≡ y ∷ ys
   put-equal x y ys e = rw e refl
 
+  -- an element above the first goes into the rest
   pub put-greater : (x y : K) (ys : List K) → R x y ≡ Greater → put R x (y ∷ ys) ≡ y ∷ put R x ys
   put-greater x y ys e = rw e refl
 
+  -- an element above the first is in the list where it is in the rest
   pub in-greater : (x y : K) (ys : List K) → R x y ≡ Greater → is_in R x (y ∷ ys) ≡ is_in R x ys
   in-greater x y ys e = rw e refl
 
+  -- an element that is equal to the first is in the list
   pub in-equal : (x y : K) (ys : List K) → R x y ≡ Equal → is_in R x (y ∷ ys) ≡ true
   in-equal x y ys e = rw e refl
 
@@ -45,6 +50,7 @@ module _ {K : Type 0} (R : K → K → Ordering) where
       tail true h = h
       tail false h = cc
 
+  -- the list from a place on begins with the element there
   pub from_here : (xs : List K) (i : ℕ) (y : K) → i < length xs → y ≡ get_or xs i y → drop i xs ≡ y ∷ drop (i + 1) xs
   from_here xs i y h e = drop_more xs i y h ∙ ap (λ z. z ∷ drop (i + 1) xs) (sym e)
 
@@ -57,6 +63,7 @@ module _ {K : Type 0} (R : K → K → Ordering) where
       ∙ ap (λ l. take i xs ++ put R x l) (sym (from_here xs i y h e))
       ∙ before
 
+  -- what is above the element at a place is in the list from there on where it is behind it
   pub in_step : (xs : List K) (i : ℕ) (x y : K) → i < length xs → y ≡ get_or xs i y → R x y ≡ Greater → is_in R x (drop i xs) ≡ is_in R x xs → is_in R x (drop (i + 1) xs) ≡ is_in R x xs
   in_step xs i x y h e g before = sym (in-greater x y (drop (i + 1) xs) g) ∙ ap (is_in R x) (sym (from_here xs i y h e)) ∙ before
 
@@ -68,6 +75,7 @@ module _ {K : Type 0} (R : K → K → Ordering) where
       ∙ ap (λ t. take i xs ++ put R x t) (sym (from_here xs i y h e))
       ∙ before
 
+  -- what is below the element at a place, and not before, is not in the list
   pub absent_here : IsTotalOrder R → (xs : List K) (i : ℕ) (x y : K) → is_ascending R xs ≡ true → i < length xs → y ≡ get_or xs i y → R x y ≡ Less → is_in R x (drop i xs) ≡ is_in R x xs → is_in R x xs ≡ false
   absent_here o xs i x y a h e l before =
       sym before ∙ ap (is_in R x) (from_here xs i y h e)
@@ -80,6 +88,7 @@ module _ {K : Type 0} (R : K → K → Ordering) where
       ∙ ap (λ t. take i xs ++ t) (put-equal x y (drop (i + 1) xs) q ∙ sym (from_here xs i y h e))
       ∙ take-append-drop i xs
 
+  -- what is equal to the element at a place is in the list
   pub in_found : (xs : List K) (i : ℕ) (x y : K) → i < length xs → y ≡ get_or xs i y → R x y ≡ Equal → is_in R x (drop i xs) ≡ is_in R x xs → is_in R x xs ≡ true
   in_found xs i x y h e q before = sym before ∙ ap (is_in R x) (from_here xs i y h e) ∙ in-equal x y (drop (i + 1) xs) q
 
@@ -87,6 +96,7 @@ module _ {K : Type 0} (R : K → K → Ordering) where
   pub put_last : (xs : List K) (i : ℕ) (x : K) → length xs ≤ i → take i xs ++ put R x (drop i xs) ≡ put R x xs → insert xs i x ≡ put R x xs
   put_last xs i x h before = ap (λ t. take i xs ++ x ∷ t) (drop_all i xs h) ∙ ap (λ t. take i xs ++ put R x t) (sym (drop_all i xs h)) ∙ before
 
+  -- what is above all elements is not in the list
   pub absent_last : (xs : List K) (i : ℕ) (x : K) → length xs ≤ i → is_in R x (drop i xs) ≡ is_in R x xs → is_in R x xs ≡ false
   absent_last xs i x h before = sym before ∙ ap (is_in R x) (drop_all i xs h)
 
@@ -121,6 +131,7 @@ module _ {K : Type 0} (R : K → K → Ordering) where
       by Equal e = rw e b
       by Greater e = rw e b
 
+  -- an ascending list with an element put in is ascending
   pub put-ascending : IsTotalOrder R → (x : K) (xs : List K) → is_ascending R xs ≡ true → is_ascending R (put R x xs) ≡ true
   put-ascending o x [] a = refl
   put-ascending o x (y ∷ ys) a = by (R x y) refl (put-ascending o x ys)
@@ -132,6 +143,7 @@ module _ {K : Type 0} (R : K → K → Ordering) where
 
   -- ---- `put` keeps what holds of each element
 
+  -- a test that all elements and one more pass is passed by all after that one is put in
   pub put-list_all : (p : K → Bool) (x : K) (xs : List K) → p x ≡ true → list_all p xs ≡ true → list_all p (put R x xs) ≡ true
   put-list_all p x [] h a = rw h refl
   put-list_all p x (y ∷ ys) h a = by (R x y) refl (put-list_all p x ys h)
@@ -141,6 +153,7 @@ module _ {K : Type 0} (R : K → K → Ordering) where
       by Equal e rest = rw e a
       by Greater e rest = rw (e, (both (p y) (list_all p ys) a).0) (rest (both (p y) (list_all p ys) a).1)
 
+  -- what holds of all elements and of one more holds of all after that one is put in
   pub put-AllByRecursion : (P : K → Type 0) (x : K) (xs : List K) → P x → AllByRecursion P xs → AllByRecursion P (put R x xs)
   put-AllByRecursion P x [] h a = (h, tt)
   put-AllByRecursion P x (y ∷ ys) h a = by (R x y) refl (put-AllByRecursion P x ys h a.1)

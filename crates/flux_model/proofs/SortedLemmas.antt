@@ -14,6 +14,7 @@ use Rattle.flux_model.specs.Ordered.{is_ascending}
 -- ---- forms of a strictly ascending list
 
 module _ {X : Type 0} (R : X → X → Ordering) (o : IsTotalOrder R) where
+  -- where a conjunction holds, both parts do
   pub both : (b c : Bool) → b && c ≡ true → (b ≡ true) × (c ≡ true)
   both true c h = (refl, h)
   both false c h = cc
@@ -27,6 +28,7 @@ module _ {X : Type 0} (R : X → X → Ordering) (o : IsTotalOrder R) where
   all_above x y [] l a = tt
   all_above x y (z ∷ zs) l a = (o.trans x y z l a.0, all_above x y zs l a.1)
 
+  -- ascending by the test is sorted, each element below the next
   pub strict_from_ascending : (xs : List X) → is_ascending R xs ≡ true → IsStrictlySortedBy R xs
   unfolding IsStrictlySortedBy
   strict_from_ascending [] a = tt
@@ -37,12 +39,14 @@ module _ {X : Type 0} (R : X → X → Ordering) (o : IsTotalOrder R) where
       let rest = strict_from_ascending (y ∷ ys) parts.1 in
       ((less, all_above x y ys less rest.0), rest)
 
+  -- and the other way round
   pub ascending_from_strict : (xs : List X) → IsStrictlySortedBy R xs → is_ascending R xs ≡ true
   unfolding IsStrictlySortedBy
   ascending_from_strict [] s = refl
   ascending_from_strict (x ∷ []) s = refl
   ascending_from_strict (x ∷ y ∷ ys) s = rw s.0.0 (ascending_from_strict (y ∷ ys) s.1)
 
+  -- a strictly sorted list is sorted
   pub sorted_from_strict : (xs : List X) → IsStrictlySortedBy R xs → IsSorted R xs
   sorted_from_strict xs s k d low high =
       ap is_lt (o.antisymm (get_or xs (k + 1) d) (get_or xs k d) ∙ ap ordering_reverse (Less-from_sorted R xs k (k + 1) d s (omega arith) high))

@@ -11,6 +11,7 @@ use Rattle.flux_model.specs.declared.limits.Limits.{Limits}
 abbrev two_files : List ℕ → List ℕ → Files
 two_files g p name = if bytes_eq name (codes "g") then Some g else if bytes_eq name (codes "p") then Some p else None
 
+-- how a run with these words, files g and p and updates ends
 abbrev pub ends : Limits → List ℕ → List ℕ → List (List ℕ) → List ℕ → Ending
 ends limits g p words s = ending_for limits (two_files g p) (shape_of words) s
 

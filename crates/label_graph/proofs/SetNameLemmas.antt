@@ -24,9 +24,9 @@ use Rattle.label_graph.proofs.TableLemmas.{same_name}
 
 -- ---- sets
 
--- texts that compare as equal are the same
-pub same_text : (t u : List ℕ) → is_eq (text_cmp t u) ≡ true → t ≡ u
-same_text t u e = exact_bytes t u (is_equal (text_cmp t u) e)
+-- texts that the test finds equal are the same
+pub is_eq-text_same : (t u : List ℕ) → is_eq (text_cmp t u) ≡ true → t ≡ u
+is_eq-text_same t u e = exact_bytes t u (is_equal (text_cmp t u) e)
 
 -- a text compares as equal to itself
 pub own_text : (t : List ℕ) → is_eq (text_cmp t t) ≡ true
@@ -37,7 +37,7 @@ pub other_text : (t u : List ℕ) → (t ≡ u → ⊥) → is_eq (text_cmp t u)
 other_text t u n = by (is_eq (text_cmp t u)) refl
   where
     by : (b : Bool) → is_eq (text_cmp t u) ≡ b → is_eq (text_cmp t u) ≡ false
-    by true e = absurd (n (same_text t u e))
+    by true e = absurd (n (is_eq-text_same t u e))
     by false e = e
 
 -- the first text of a set is in it
@@ -51,7 +51,7 @@ other_in t u rest n = rw (other_text t u n) refl
 -- what is found in a set is in it
 pub in_set : (t : List ℕ) (set : List (List ℕ)) → is_in text_cmp t set ≡ true → In set t
 in_set t set e = let y = in_any (λ z. is_eq (text_cmp t z)) set e in
-    let P : List ℕ → Type 0 = λ z. In set z in subst P (sym (same_text t y.0 y.2)) y.1
+    let P : List ℕ → Type 0 = λ z. In set z in subst P (sym (is_eq-text_same t y.0 y.2)) y.1
 
 -- the first text of a set does not come again
 pub not_later : (t : List ℕ) (rest : List (List ℕ)) → is_ascending text_cmp (t ∷ rest) ≡ true → is_in text_cmp t rest ≡ false
@@ -207,7 +207,7 @@ lowered_more t rest apart (Some x) = by (is_eq (text_cmp x.text t)) refl
     by : (b : Bool) → is_eq (text_cmp x.text t) ≡ b → lowered_in rest (lowered_in (t ∷ []) (Some x)) ≡ lowered_in (t ∷ rest) (Some x)
     by true e =
         let P : List ℕ → Type 0 = λ z. is_in text_cmp z rest ≡ false in
-        let gone : is_in text_cmp x.text rest ≡ false = subst P (sym (same_text x.text t e)) apart in
+        let gone : is_in text_cmp x.text rest ≡ false = subst P (sym (is_eq-text_same x.text t e)) apart in
         rw e (lowered_stays rest x gone)
     by false e = rw e refl
 
@@ -296,9 +296,8 @@ known_at [] t e = cc
 known_at (None ∷ rest) t e = let r = known_at rest t e in (suc r.0, r.1)
 known_at (Some x ∷ rest) t e = by (is_eq (text_cmp t x.text)) refl (known_at rest t)
   where
-    by : (b : Bool) → is_eq (text_cmp t x.text) ≡ b → (is_known rest t ≡ true → (n : ℕ) × (text_at rest n ≡ Some t)) →
-        (n : ℕ) × (text_at (Some x ∷ rest) n ≡ Some t)
-    by true f ih = (zero, ap Some (sym (same_text t x.text f)))
+    by : (b : Bool) → is_eq (text_cmp t x.text) ≡ b → (is_known rest t ≡ true → (n : ℕ) × (text_at rest n ≡ Some t)) → (n : ℕ) × (text_at (Some x ∷ rest) n ≡ Some t)
+    by true f ih = (zero, ap Some (sym (is_eq-text_same t x.text f)))
     by false f ih = let r = ih (rw f at e) in (suc r.0, r.1)
 
 -- no number stands for a text that is not known

@@ -37,9 +37,9 @@ stands_from xs w h =
     subst (Contains xs) same (a.0, a.2, a.3)
 
 -- the first that passes
-found : (p : ℕ → Bool) (xs : List ℕ) → list_any p xs ≡ true → (w : ℕ) × (find p xs ≡ Some w) × Contains xs w × (p w ≡ true)
-found p [] h = cc
-found p (x ∷ xs) h = by (p x) refl (found p xs)
+find_passes : (p : ℕ → Bool) (xs : List ℕ) → list_any p xs ≡ true → (w : ℕ) × (find p xs ≡ Some w) × Contains xs w × (p w ≡ true)
+find_passes p [] h = cc
+find_passes p (x ∷ xs) h = by (p x) refl (find_passes p xs)
   where
     by : (b : Bool) → p x ≡ b → (list_any p xs ≡ true → (w : ℕ) × (find p xs ≡ Some w) × Contains xs w × (p w ≡ true)) → (w : ℕ) × (find p (x ∷ xs) ≡ Some w) × Contains (x ∷ xs) w × (p w ≡ true)
     by true e rest = (x, ap (λ c. cond c (Some x) (find p xs)) e, (0, omega arith, refl), e)
@@ -164,7 +164,7 @@ module _ (t : QueryTree) (is : IsTree t) (live : List ℕ) where
     part_with : (u : ℕ) → u < length t.links → is_open u ≡ true → IsPartOf t (with_place o (Some (place_of t (latest_first o) u)))
     part_with u h opened =
         let both = split (list_any (λ w. w == u) (latest_first o)) (list_any (are_neighbours t u) (latest_first o)) opened in
-        let w = found (are_neighbours t u) (latest_first o) both.1 in
+        let w = find_passes (are_neighbours t u) (latest_first o) both.1 in
         let apart : Contains (vertices o) u → ⊥ = λ c. (let there = stands (latest_first o) u (to_reverse (vertices o) u c) in let gone = both.0 in cc) in
         subst (λ n. IsPartOf t (with_place o (Some (record { vertex = u; anchor = unwrap_or n 0 })))) (sym w.1)
         (part_more t o part u w.0 h apart (in_reverse (vertices o) w.0 w.2) w.3)

@@ -16,7 +16,8 @@ use Rattle.flux_model.specs.declared.graph.Triple.{Triple}
 use Rattle.graph_traits.specs.Rows.{triples_from}
 use Rattle.snapshot_text.specs.Row.{edge_triple}
 use Rattle.snapshot_text.specs.declared.row.RowEdge.{RowEdge}
-use Rattle.snapshot_text.proofs.OrderLemmas.{triple_total, same_triple}
+use Rattle.graph_traits.proofs.NumberLemmas.{triple_exact}
+use Rattle.snapshot_text.proofs.OrderLemmas.{triple_total}
 use Rattle.flux_model.proofs.SortedLemmas.{strict_from_ascending, sorted_from_strict, sorted_form_unique}
 
 -- by label, and then by the other end
@@ -39,7 +40,7 @@ pub row_sorted : (g : Graph) (src : ℕ) (found sorted : List RowEdge) (outs lef
 row_sorted g src found sorted outs left is p read end q s =
     let all : map (edge_triple src) found ≡ outs = sym (append-nil (map (edge_triple src) found)) ∙ ap (λ l. map (edge_triple src) found ++ l) (sym end) ∙ read in
     let moved : IsPermutation outs (map (edge_triple src) sorted) = subst (λ l. IsPermutation l (map (edge_triple src) sorted)) all (IsPermutation-map (edge_triple src) found sorted q) in
-    sorted_form_unique triple_cmp triple_total same_triple outs (map (edge_triple src) sorted) (triples_from g src) moved p
+    sorted_form_unique triple_cmp triple_total triple_exact outs (map (edge_triple src) sorted) (triples_from g src) moved p
     (triples-sorted src sorted s)
     (sorted_from_strict triple_cmp triple_total (triples_from g src)
     (IsStrictlySortedBy-filter triple_cmp (λ t. t.src == src) g.triples (strict_from_ascending triple_cmp triple_total g.triples is.ascending_triples)))

@@ -17,7 +17,7 @@ use Rattle.flux_model.specs.Partial.{id_of, stands_where_given, keeps_non_tree, 
 use Rattle.flux_model.specs.Pattern.{PatternGraph, HasEnds, vertex_count, fits_labels}
 use Rattle.flux_model.specs.States.{joined, reaches_within}
 use Rattle.flux_model.specs.Tree.{QueryTree, edge_at}
-use Rattle.flux_laws.proofs.EmbeddingsLemmas.{embeddings-ascending, same_exact, found}
+use Rattle.flux_laws.proofs.EmbeddingsLemmas.{embeddings-ascending, same_exact, embedding_listed}
 use Rattle.flux_model.specs.Members.{In}
 use Rattle.flux_model.proofs.MemberLemmas.{filter_in, in_filter, in_any}
 use Rattle.flux_laws.proofs.AscendingLemmas.{filter-ascending}
@@ -132,7 +132,7 @@ module _ (q : PatternGraph) (t : QueryTree) (d : StateRows) (g : Graph) (o : Sea
 
   listed : In (embeddings q g) ids
   listed =
-      let r = in_any (same_map ids) (embeddings q g) (found q g ids is_one) in
+      let r = in_any (same_map ids) (embeddings q g) (embedding_listed q g ids is_one) in
       subst (λ m. In (embeddings q g) m) (sym (same_exact ids r.0 r.2)) r.1
 
   pub one_member : members_from q g p ≡ ids_of p ∷ []
