@@ -17,8 +17,8 @@ ghost use Rattle.tree_search.specs.Members.{members_from, ids_of, GrewByAll, Gre
 
 use crate::found::Found;
 use dcg_store::Dcg;
-use graph_rows::{Direction, GraphRow};
 use flux_model::{Ledger, Partial, Pattern, State, Steps};
+use graph_rows::{Direction, GraphRow};
 use graph_traits::{HoldGraph, ReadGraph};
 use match_order::{SearchOrder, order};
 use nontree_test::{free, joins, label_numbers};
