@@ -17,7 +17,7 @@ use Rattle.flux_laws.proofs.VerdictsLemmas.{written}
 use Rattle.stream_lines.specs.Waiting.{Waiting}
 use Rattle.stream_lines.specs.Follows.{Follows}
 use Rattle.watch_cli.specs.Session.{WatchState, first_state, said_by, next_blocks, last_text}
-use Rattle.watch_cli.specs.Progress.{Followed}
+use Rattle.watch_cli.specs.UpdatesProgress.{Followed}
 use Rattle.watch_cli.specs.Ends.{Held, EndsAs, EndsBefore, EndsAtFault}
 use Rattle.watch_cli.specs.Halts.{WriteHalts, HaltWhere}
 use Rattle.watch_cli.specs.declared.halt.Halt.{Halt}

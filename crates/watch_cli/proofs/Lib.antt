@@ -1,10 +1,6 @@
-pub mod JudgedLemmas
-pub mod FileLemmas
-pub mod GraphFileLemmas
 pub mod ReportLemmas
 pub mod FollowLemmas
 pub mod EmbeddingsLemmas
 pub mod SessionLemmas
-pub mod InputLemmas
 pub mod AnswersLemmas
 pub mod TopLemmas

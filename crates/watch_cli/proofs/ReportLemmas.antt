@@ -21,7 +21,7 @@ use Rattle.stream_lines.specs.Follows.{Follows}
 use Rattle.stream_lines.proofs.CallerLemmas.{length-whole, rest-nil}
 use Rattle.watch_cli.specs.Session.{WatchState, first_state, said_by, counted, after_said, after_all, next_block, next_blocks, end_text, last_text}
 use Rattle.watch_cli.specs.Wrote.{Wrote}
-use Rattle.watch_cli.specs.Progress.{Followed}
+use Rattle.watch_cli.specs.UpdatesProgress.{Followed}
 
 -- ---- the session, line by line
 

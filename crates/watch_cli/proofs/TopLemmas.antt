@@ -12,9 +12,14 @@ use Rattle.flux_model.specs.Verdict as verdict
 use Rattle.flux_model.specs.declared.limits.Limits.{Limits}
 use Rattle.stream_lines.proofs.CallerLemmas.{whole-nil}
 use Rattle.watch_cli.specs.Words.{ReadsUpdates}
-use Rattle.watch_cli.specs.Files.{FileIs}
+use Rattle.file_reading.specs.FileContents.{FileIs}
 use Rattle.watch_cli.specs.Ends.{Held, verdict_of, inputs, written_of, EndsAs, EndsBefore, EndsAtFault, RunEndsAs, RunEndsBefore, ReadFails, StatusWhere}
-use Rattle.watch_cli.specs.Halts.{HaltWhere}
+use Rattle.file_reading.specs.ReadingStops.{StopWhere}
+use Rattle.file_reading.specs.declared.stop.Stop.{Stop}
+use Rattle.file_reading.specs.declared.stop.Stop.TheVariants as stop
+use Rattle.watch_cli.specs.Halts.{refused_as, refusal_of, halt_of, HaltWhere}
+use Rattle.watch_cli.specs.declared.halt.InputFile.{InputFile}
+use Rattle.watch_cli.specs.declared.halt.InputFile.TheVariants as input
 use Rattle.watch_cli.specs.declared.status.Status.{Status}
 use Rattle.watch_cli.specs.declared.status.Status.TheVariants as status
 use Rattle.watch_cli.specs.declared.halt.Halt.{Halt}
@@ -155,13 +160,16 @@ HaltWhere-map ends ends1 reads reads1 writes writes1 (halt.BadGraph bad) e r w s
 HaltWhere-map ends ends1 reads reads1 writes writes1 (halt.BadPatterns bad) e r w so = e (verdict.BadPatterns bad) so
 
 -- a file ends it
-pub file-halts : (limits : Limits) (files : Option Files) (shape : Shape) (f0 f1 f2 r0 r1 : ℕ) (left put : Option (List ℕ)) (refuses : Verdict → Type 0) (writes : Type 0) (h : Halt)
+pub file-halts : (limits : Limits) (files : Option Files) (shape : Shape) (f0 f1 f2 r0 r1 : ℕ) (left put : Option (List ℕ)) (refuses : Verdict → Type 0) (writes : Type 0) (file : InputFile) (s : Stop)
     → ((v : Verdict) → refuses v → Judged limits files (Some shape) (Err v)) → f0 ≤ f1
-    → HaltWhere refuses (Rose f1 f2) ⊥ h
-    → HaltWhere (RunEndsAs limits files (Some shape) left put put) (ReadFails limits files (Some shape) f0 f2 r0 r1 left left put put) writes h
-file-halts limits files shape f0 f1 f2 r0 r1 left put refuses writes h judged le so =
-    HaltWhere-map refuses (RunEndsAs limits files (Some shape) left put put) (Rose f1 f2) (ReadFails limits files (Some shape) f0 f2 r0 r1 left left put put) ⊥ writes h
-    (λ v e. run-stops limits files shape left put v (judged v e)) (λ rose. shelf-fails limits files shape f0 f2 r0 r1 left put (omega arith)) (λ never. absurd never) so
+    → StopWhere refuses (refusal_of file) (Rose f1 f2) s
+    → HaltWhere (RunEndsAs limits files (Some shape) left put put) (ReadFails limits files (Some shape) f0 f2 r0 r1 left left put put) writes (halt_of (refused_as file) s)
+file-halts limits files shape f0 f1 f2 r0 r1 left put refuses writes file stop.Memory judged le so = tt
+file-halts limits files shape f0 f1 f2 r0 r1 left put refuses writes file stop.Read judged le so = shelf-fails limits files shape f0 f2 r0 r1 left put (omega arith)
+file-halts limits files shape f0 f1 f2 r0 r1 left put refuses writes file stop.NoFile judged le so = run-stops limits files shape left put verdict.NoFile (judged verdict.NoFile so)
+file-halts limits files shape f0 f1 f2 r0 r1 left put refuses writes file stop.TooMuch judged le so = run-stops limits files shape left put verdict.TooMuch (judged verdict.TooMuch so)
+file-halts limits files shape f0 f1 f2 r0 r1 left put refuses writes input.Graph (stop.Bad bad) judged le so = run-stops limits files shape left put (verdict.BadGraph bad) (judged (verdict.BadGraph bad) so)
+file-halts limits files shape f0 f1 f2 r0 r1 left put refuses writes input.Patterns (stop.Bad bad) judged le so = run-stops limits files shape left put (verdict.BadPatterns bad) (judged (verdict.BadPatterns bad) so)
 
 -- following the updates ends it
 pub follow-halts : (limits : Limits) (files : Option Files) (shape : Shape) (f0 f1 r0 r1 w0 w1 : ℕ) (l0 l1 p0 p1 : Option (List ℕ)) (a : Accepted) (h : Halt) → Judged limits files (Some shape) (Ok a) → ReadsUpdates shape

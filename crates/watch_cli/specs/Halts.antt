@@ -4,16 +4,22 @@ use Rattle.flux_outside.specs.Causes.{Rose}
 use Rattle.flux_model.specs.Verdict.{Verdict}
 use Rattle.flux_model.specs.Verdict as verdict
 use Rattle.flux_model.specs.declared.code.Bad.{Bad}
-use Rattle.watch_cli.specs.declared.stop.Stop.{Stop}
-use Rattle.watch_cli.specs.declared.stop.Stop.TheVariants as stop
+use Rattle.file_reading.specs.declared.stop.Stop.{Stop}
+use Rattle.file_reading.specs.declared.stop.Stop.TheVariants as stop
 use Rattle.watch_cli.specs.declared.halt.Halt.{Halt}
 use Rattle.watch_cli.specs.declared.halt.Halt.TheVariants as halt
 use Rattle.watch_cli.specs.declared.halt.InputFile.{InputFile}
 use Rattle.watch_cli.specs.declared.halt.InputFile.TheVariants.{Graph, Patterns}
 
+-- what a refused line of a file ends a run with
 abbrev pub refused_as : InputFile → Bad → Halt
 refused_as Graph bad = halt.BadGraph bad
 refused_as Patterns bad = halt.BadPatterns bad
+
+-- the verdict that it is
+abbrev pub refusal_of : InputFile → Bad → Verdict
+refusal_of Graph bad = verdict.BadGraph bad
+refusal_of Patterns bad = verdict.BadPatterns bad
 
 -- the run ends as the reading of a file stopped, and with `bad` where a line was refused
 abbrev pub halt_of : (Bad → Halt) → Stop → Halt

@@ -1,12 +1,9 @@
 pub mod Words
 pub mod Status
-pub mod Files
 pub mod Session
 pub mod Answer
 pub mod Deltas
 pub mod Wrote
-pub mod Stops
 pub mod Halts
 pub mod Ends
-pub mod Progress
-pub mod Taking
+pub mod UpdatesProgress

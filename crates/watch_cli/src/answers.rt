@@ -10,13 +10,13 @@ ghost use Rattle.flux_model.specs.Verdict.{Match, Done};
 ghost use Rattle.watch_cli.specs.Ends.{RunEndsAs, RunEndsBefore, ReadFails};
 ghost use Rattle.watch_cli.specs.Halts.{WriteHalts, HaltWhere};
 
-use crate::halt::Halt;
-use crate::inputs::{read_patterns, read_store};
+use crate::halt::{Halt, InputFile};
 use crate::report::put_report;
 use delta_report::write_answers;
+use file_reading::{read_patterns, read_store};
 use flux_model::{Ledger, Limits, Patterns, Steps};
 use flux_outside::{Shelf, Sink};
-use label_graph::{KeepGraph, ReadGraph};
+use graph_traits::{KeepGraph, ReadGraph};
 use pattern_registry::Registry;
 use std::alloc::{AllocError, Global};
 
@@ -45,8 +45,14 @@ pub fn list_answers<F: Shelf, G: KeepGraph + ReadGraph<L>, W: Sink, L: Ledger>(
         (F.faults shelf.old) (F.faults shelf.new) read read left left (W.taken out.old) (W.taken out.new))
         (Rose (W.faults out.old) (W.faults out.new))) }
 {
-    let graph = read_store(alloc, limits, shelf, graph_name, empty)?;
-    let patterns = read_patterns(alloc, limits, shelf, patterns_name)?;
+    let graph = match read_store(alloc, limits, shelf, graph_name, empty) {
+        Ok(graph) => graph,
+        Err(stop) => return Err(Halt::of(InputFile::Graph, stop)),
+    };
+    let patterns = match read_patterns(alloc, limits, shelf, patterns_name) {
+        Ok(patterns) => patterns,
+        Err(stop) => return Err(Halt::of(InputFile::Patterns, stop)),
+    };
     put_answers(alloc, patterns, &graph, out, steps)
 }
 

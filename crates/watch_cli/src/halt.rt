@@ -2,7 +2,7 @@
 ghost use Rattle.std.specs.Prelude.{◌≡◌};
 ghost use Rattle.watch_cli.specs.Halts.{halt_of, refused_as};
 
-use crate::stop::Stop;
+use file_reading::Stop;
 use flux_model::Bad;
 
 /// Why a run with words of a shape ends before it is done.

@@ -1,10 +1,10 @@
 //! Every block is put before the next read. The source and the sink share a count of the bytes that were put.
 ghost use Rattle.std.specs.Prelude.{◌≡◌};
 
-use crate::tests::{GRAPH, PATTERN, shelf_of, words_of};
 use crate::{Status, run};
 use flux_model::{Limits, Silent, Steps};
-use flux_outside::{Failed, MemSink, MemSource, Sink, Source};
+use flux_outside::{Failed, MemShelf, MemSink, MemSource, Sink, Source};
+use std::alloc::{AllocError, Global};
 use std::cell::Cell;
 use std::test::Fail;
 
@@ -55,12 +55,29 @@ impl Source for NotingSource<'_> {
     }
 }
 
+/// `watch g p`.
+fn watch_words(alloc: Global) -> Result<Vec<String>, AllocError> {
+    let mut words = Vec::new(alloc);
+    for word in ["watch", "g", "p"] {
+        words.push(String::from_str(alloc, word)?)?;
+    }
+    Ok(words)
+}
+
+/// A shelf with a graph file `g` of two vertices, and a pattern file `p` of one edge between them.
+fn two_files(alloc: Global) -> Result<MemShelf, AllocError> {
+    let mut shelf = MemShelf::new(alloc);
+    shelf.add("g", b"v 1 A\nv 2 B\n")?;
+    shelf.add("p", b"p ab hom\nv 0 A\nv 1 B\ne 0 1 r\n")?;
+    Ok(shelf)
+}
+
 // Each piece but the third ends one line, the third none; the last read gives nothing.
 #[test]
 fn each_block_is_put_before_the_next_read(rt: HostRuntime) -> Result<(), Fail> {
     let alloc = rt.alloc();
-    let words = words_of(alloc, &["watch", "g", "p"])?;
-    let mut shelf = shelf_of(alloc, GRAPH, PATTERN)?;
+    let words = watch_words(alloc)?;
+    let mut shelf = two_files(alloc)?;
     let put = Cell::new(0);
     let bytes = b"e 1 2 r\n-e 1 2 r\ne 1 2 r";
     let mut updates = NotingSource {

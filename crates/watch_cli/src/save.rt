@@ -10,12 +10,12 @@ ghost use Rattle.flux_model.specs.Verdict.{Save, Done};
 ghost use Rattle.watch_cli.specs.Ends.{RunEndsAs, RunEndsBefore, ReadFails};
 ghost use Rattle.watch_cli.specs.Halts.{WriteHalts, HaltWhere};
 
-use crate::halt::Halt;
-use crate::inputs::read_store;
+use crate::halt::{Halt, InputFile};
 use crate::report::put_report;
+use file_reading::read_store;
 use flux_model::{Ledger, Limits, Steps};
 use flux_outside::{Shelf, Sink};
-use label_graph::{KeepGraph, ReadGraph};
+use graph_traits::{KeepGraph, ReadGraph};
 use snapshot_text::write_graph;
 use std::alloc::Global;
 
@@ -42,7 +42,10 @@ pub fn save_graph<F: Shelf, G: KeepGraph + ReadGraph<L>, W: Sink, L: Ledger>(
         (F.faults shelf.old) (F.faults shelf.new) read read left left (W.taken out.old) (W.taken out.new))
         (Rose (W.faults out.old) (W.faults out.new))) }
 {
-    let graph = read_store(alloc, limits, shelf, name, empty)?;
+    let graph = match read_store(alloc, limits, shelf, name, empty) {
+        Ok(graph) => graph,
+        Err(stop) => return Err(Halt::of(InputFile::Graph, stop)),
+    };
     put_graph(alloc, &graph, out, steps)
 }
 

@@ -9,9 +9,9 @@ ghost use Rattle.watch_cli.specs.Halts.{HaltWhere};
 ghost use Rattle.watch_cli.specs.Session.{first_state};
 
 use crate::halt::Halt;
-use crate::piece::{ask_for, make_buffer};
 use crate::report::{report_end, report_waiting};
 use crate::session::Session;
+use file_reading::{ask_for, make_buffer};
 use flux_model::Limits;
 use flux_outside::{Sink, Source};
 use std::alloc::Global;

@@ -7,10 +7,10 @@ ghost use Rattle.flux_model.specs.Verdict.{Watch, Done};
 ghost use Rattle.watch_cli.specs.Ends.{RunEndsAs, RunEndsBefore, ReadFails};
 ghost use Rattle.watch_cli.specs.Halts.{HaltWhere};
 
-use crate::halt::Halt;
-use crate::inputs::{read_graph, read_patterns};
+use crate::halt::{Halt, InputFile};
 use crate::session::Session;
 use crate::updates::follow;
+use file_reading::{read_graph, read_patterns};
 use flux_model::Limits;
 use flux_outside::{Shelf, Sink, Source};
 use std::alloc::Global;
@@ -39,8 +39,14 @@ pub fn watch_updates<F: Shelf, S: Source, W: Sink>(
         (S.left updates.old) (S.left updates.new) (W.taken out.old) (W.taken out.new))
         (Rose (W.faults out.old) (W.faults out.new))) }
 {
-    let graph = read_graph(alloc, limits, shelf, graph_name)?;
-    let patterns = read_patterns(alloc, limits, shelf, patterns_name)?;
+    let graph = match read_graph(alloc, limits, shelf, graph_name) {
+        Ok(graph) => graph,
+        Err(stop) => return Err(Halt::of(InputFile::Graph, stop)),
+    };
+    let patterns = match read_patterns(alloc, limits, shelf, patterns_name) {
+        Ok(patterns) => patterns,
+        Err(stop) => return Err(Halt::of(InputFile::Patterns, stop)),
+    };
     let mut session = Session::new(graph, patterns);
     follow(alloc, limits, &mut session, updates, out)
 }

@@ -1,53 +1,68 @@
-use Rattle.std.proofs.Common.{Some, Ok, Err, refl}
-use Rattle.std.proofs.lemmas.Result.{err_from_is_err_and, on_ok_weaker, IfErr-weaker}
+use Rattle.std.proofs.Common.{Some, Ok, Err, refl, arith}
+use Rattle.std.proofs.lemmas.Result.{on_ok_weaker, IfErr-weaker}
 use Rattle.flux_outside.specs.Causes.{Rose}
 use Rattle.flux_model.specs.Report.{match_text}
-use Rattle.flux_model.specs.Verdict.{Shape, Match, Matched, Done, pattern_file, ending_with}
-use Rattle.watch_cli.specs.Files.{FileIs}
+use Rattle.flux_model.specs.Verdict.{Shape, Match, Matched, Done, graph_file, pattern_file, ending_with}
+use Rattle.file_reading.specs.FileContents.{FileIs}
 use Rattle.watch_cli.specs.Ends.{ReadFails}
+use Rattle.watch_cli.specs.declared.halt.InputFile.TheVariants.{Graph, Patterns}
 use Rattle.watch_cli.proofs.ReportLemmas.{put_either}
-use Rattle.watch_cli.proofs.TopLemmas.{Judged, both-judged, patterns-judged, run-before, run-ends, run-ends_before, text-put, text-front, file-halts, put-halts}
+use Rattle.watch_cli.proofs.TopLemmas.{Judged, both-judged, graph-judged, patterns-judged, run-before, run-ends, run-ends_before, text-put, text-front, file-halts, put-halts}
 use Rattle.watch_cli.proofs.answers.list_answers.Goals as goal
 
-pub returns-in_err-patterns-clause-front : goal.returns-in_err-patterns-clause-front
-returns-in_err-patterns-clause-front g c =
+pub returns-in-Err-clause-front : goal.returns-in-Err-clause-front
+returns-in-Err-clause-front g c =
     λ left. run-before c.args.limits.now (g.F.Shelf.files c.args.shelf.now) (Some (Match c.args.graph_name.now c.args.patterns_name.now)) left (g.W.Sink.taken c.args.out.now)
 
-pub returns-in_err-patterns-clause-halt : goal.returns-in_err-patterns-clause-halt
-returns-in_err-patterns-clause-halt g c =
+pub returns-in-Err-clause-halt : goal.returns-in-Err-clause-halt
+returns-in-Err-clause-halt g c =
     let shape : Shape = Match c.args.graph_name.now c.args.patterns_name.now in
-    let p = err_from_is_err_and c.from_residual-in_err-patterns.result c.from_residual-in_err-patterns.ensures.1 in
-    rw (p.1, p.2) (λ left read. file-halts c.args.limits.now (g.F.Shelf.files c.args.shelf.now) shape
+    rw c.of.ensures (λ left read. file-halts c.args.limits.now (g.F.Shelf.files c.args.shelf.now) shape
+    (g.F.Shelf.faults c.args.shelf.now) (g.F.Shelf.faults c.args.shelf.now) (g.F.Shelf.faults c.read_store.new.shelf)
+    read read left (g.W.Sink.taken c.args.out.now)
+    (λ v. FileIs (g.F.Shelf.files c.args.shelf.now) c.args.graph_name.now (graph_file c.args.limits.now) (Err v))
+    (Rose (g.W.Sink.faults c.args.out.now) (g.W.Sink.faults c.args.out.now)) Graph c.in-Err.stop
+    (λ v e. graph-judged Matched shape c.args.graph_name.now c.args.patterns_name.now c.args.limits.now (g.F.Shelf.files c.args.shelf.now) v (λ m. refl) e)
+    (omega arith) c.in-Err.ensures.stop)
+
+pub returns-in-Err-read_patterns-clause-front : goal.returns-in-Err-read_patterns-clause-front
+returns-in-Err-read_patterns-clause-front g c =
+    λ left. run-before c.args.limits.now (g.F.Shelf.files c.args.shelf.now) (Some (Match c.args.graph_name.now c.args.patterns_name.now)) left (g.W.Sink.taken c.args.out.now)
+
+pub returns-in-Err-read_patterns-clause-halt : goal.returns-in-Err-read_patterns-clause-halt
+returns-in-Err-read_patterns-clause-halt g c =
+    let shape : Shape = Match c.args.graph_name.now c.args.patterns_name.now in
+    rw c.of-in-Err-read_patterns.ensures (λ left read. file-halts c.args.limits.now (g.F.Shelf.files c.args.shelf.now) shape
     (g.F.Shelf.faults c.args.shelf.now) (g.F.Shelf.faults c.read_store.new.shelf) (g.F.Shelf.faults c.read_patterns.new.shelf)
     read read left (g.W.Sink.taken c.args.out.now)
     (λ v. FileIs (g.F.Shelf.files c.read_store.new.shelf) c.args.patterns_name.now (pattern_file c.args.limits.now) (Err v))
-    (Rose (g.W.Sink.faults c.args.out.now) (g.W.Sink.faults c.args.out.now)) _
-    (λ v e. patterns-judged Matched shape c.args.graph_name.now c.args.patterns_name.now c.args.limits.now (g.F.Shelf.files c.args.shelf.now) (g.F.Shelf.files c.read_store.new.shelf) (g.G.HoldGraph.graph c.in_ok-graph.graph) v
-    (λ m. refl) c.in_ok-graph.ensures.same c.in_ok-graph.ensures.ok e)
-    c.in_ok-graph.ensures.later c.in_err-patterns.ensures.halt)
+    (Rose (g.W.Sink.faults c.args.out.now) (g.W.Sink.faults c.args.out.now)) Patterns c.in-Err-read_patterns.stop
+    (λ v e. patterns-judged Matched shape c.args.graph_name.now c.args.patterns_name.now c.args.limits.now (g.F.Shelf.files c.args.shelf.now) (g.F.Shelf.files c.read_store.new.shelf) (g.G.HoldGraph.graph c.in-Ok.graph) v
+    (λ m. refl) c.in-Ok.ensures.same c.in-Ok.ensures.ok e)
+    c.in-Ok.ensures.later c.in-Err-read_patterns.ensures.stop)
 
 pub returns-clause-ok : goal.returns-clause-ok
 returns-clause-ok g c =
     let shape : Shape = Match c.args.graph_name.now c.args.patterns_name.now in
-    let graph = g.G.HoldGraph.graph c.in_ok-graph.graph in
-    let judged : Judged c.args.limits.now (g.F.Shelf.files c.args.shelf.now) (Some shape) (Ok (Matched graph c.in_ok-patterns.patterns)) =
-    both-judged Matched shape c.args.graph_name.now c.args.patterns_name.now c.args.limits.now (g.F.Shelf.files c.args.shelf.now) (g.F.Shelf.files c.read_store.new.shelf) graph c.in_ok-patterns.patterns
-    (λ m. refl) c.in_ok-graph.ensures.same c.in_ok-graph.ensures.ok c.in_ok-patterns.ensures.ok in
+    let graph = g.G.HoldGraph.graph c.in-Ok.graph in
+    let judged : Judged c.args.limits.now (g.F.Shelf.files c.args.shelf.now) (Some shape) (Ok (Matched graph c.in-Ok-read_patterns.patterns)) =
+    both-judged Matched shape c.args.graph_name.now c.args.patterns_name.now c.args.limits.now (g.F.Shelf.files c.args.shelf.now) (g.F.Shelf.files c.read_store.new.shelf) graph c.in-Ok-read_patterns.patterns
+    (λ m. refl) c.in-Ok.ensures.same c.in-Ok.ensures.ok c.in-Ok-read_patterns.ensures.ok in
     λ left. on_ok_weaker c.put_answers.result
-    (λ put. run-ends c.args.limits.now (g.F.Shelf.files c.args.shelf.now) shape left (g.W.Sink.taken c.args.out.now) (g.W.Sink.taken c.put_answers.new.out) (Matched graph c.in_ok-patterns.patterns) Done judged
-    (text-put left (λ s. ending_with c.args.limits.now s (Matched graph c.in_ok-patterns.patterns)) (match_text graph c.in_ok-patterns.patterns) (g.W.Sink.taken c.args.out.now) (g.W.Sink.taken c.put_answers.new.out) (λ s. refl) put))
+    (λ put. run-ends c.args.limits.now (g.F.Shelf.files c.args.shelf.now) shape left (g.W.Sink.taken c.args.out.now) (g.W.Sink.taken c.put_answers.new.out) (Matched graph c.in-Ok-read_patterns.patterns) Done judged
+    (text-put left (λ s. ending_with c.args.limits.now s (Matched graph c.in-Ok-read_patterns.patterns)) (match_text graph c.in-Ok-read_patterns.patterns) (g.W.Sink.taken c.args.out.now) (g.W.Sink.taken c.put_answers.new.out) (λ s. refl) put))
     c.put_answers.ensures.ok
 
 pub returns-clause-front : goal.returns-clause-front
 returns-clause-front g c =
     let shape : Shape = Match c.args.graph_name.now c.args.patterns_name.now in
-    let graph = g.G.HoldGraph.graph c.in_ok-graph.graph in
-    let judged : Judged c.args.limits.now (g.F.Shelf.files c.args.shelf.now) (Some shape) (Ok (Matched graph c.in_ok-patterns.patterns)) =
-    both-judged Matched shape c.args.graph_name.now c.args.patterns_name.now c.args.limits.now (g.F.Shelf.files c.args.shelf.now) (g.F.Shelf.files c.read_store.new.shelf) graph c.in_ok-patterns.patterns
-    (λ m. refl) c.in_ok-graph.ensures.same c.in_ok-graph.ensures.ok c.in_ok-patterns.ensures.ok in
-    λ left. run-ends_before c.args.limits.now (g.F.Shelf.files c.args.shelf.now) shape left (g.W.Sink.taken c.args.out.now) (g.W.Sink.taken c.put_answers.new.out) (Matched graph c.in_ok-patterns.patterns) judged
-    (text-front left (λ s. ending_with c.args.limits.now s (Matched graph c.in_ok-patterns.patterns)) (match_text graph c.in_ok-patterns.patterns) (g.W.Sink.taken c.args.out.now) (g.W.Sink.taken c.put_answers.new.out) (λ s. refl)
-    (put_either c.put_answers.result (g.W.Sink.taken c.args.out.now) (g.W.Sink.taken c.put_answers.new.out) (match_text graph c.in_ok-patterns.patterns) c.put_answers.ensures.ok c.put_answers.ensures.err))
+    let graph = g.G.HoldGraph.graph c.in-Ok.graph in
+    let judged : Judged c.args.limits.now (g.F.Shelf.files c.args.shelf.now) (Some shape) (Ok (Matched graph c.in-Ok-read_patterns.patterns)) =
+    both-judged Matched shape c.args.graph_name.now c.args.patterns_name.now c.args.limits.now (g.F.Shelf.files c.args.shelf.now) (g.F.Shelf.files c.read_store.new.shelf) graph c.in-Ok-read_patterns.patterns
+    (λ m. refl) c.in-Ok.ensures.same c.in-Ok.ensures.ok c.in-Ok-read_patterns.ensures.ok in
+    λ left. run-ends_before c.args.limits.now (g.F.Shelf.files c.args.shelf.now) shape left (g.W.Sink.taken c.args.out.now) (g.W.Sink.taken c.put_answers.new.out) (Matched graph c.in-Ok-read_patterns.patterns) judged
+    (text-front left (λ s. ending_with c.args.limits.now s (Matched graph c.in-Ok-read_patterns.patterns)) (match_text graph c.in-Ok-read_patterns.patterns) (g.W.Sink.taken c.args.out.now) (g.W.Sink.taken c.put_answers.new.out) (λ s. refl)
+    (put_either c.put_answers.result (g.W.Sink.taken c.args.out.now) (g.W.Sink.taken c.put_answers.new.out) (match_text graph c.in-Ok-read_patterns.patterns) c.put_answers.ensures.ok c.put_answers.ensures.err))
 
 pub returns-clause-halt : goal.returns-clause-halt
 returns-clause-halt g c =

@@ -1,5 +1,5 @@
 use Rattle.std.proofs.Common.{◌≡◌, ◌≤◌, ◌-◌, [], vec_len}
-use Rattle.watch_cli.specs.Progress.{Followed}
+use Rattle.watch_cli.specs.UpdatesProgress.{Followed}
 use Rattle.watch_cli.proofs.updates.follow.Given as goal
 
 abbrev pub invariant-loop-count : goal.invariant-loop-count

@@ -1,36 +1,51 @@
-use Rattle.std.proofs.Common.{Some, Ok, Err, refl, sym, subst}
-use Rattle.std.proofs.lemmas.Result.{err_from_is_err_and, on_ok_weaker, IfErr-weaker}
+use Rattle.std.proofs.Common.{Some, Ok, Err, refl, sym, subst, arith}
+use Rattle.std.proofs.lemmas.Result.{on_ok_weaker, IfErr-weaker}
 use Rattle.flux_outside.specs.Causes.{Rose}
-use Rattle.flux_model.specs.Verdict.{Shape, Watch, Watched, Done, pattern_file}
-use Rattle.watch_cli.specs.Files.{FileIs}
+use Rattle.flux_model.specs.Verdict.{Shape, Watch, Watched, Done, graph_file, pattern_file}
+use Rattle.file_reading.specs.FileContents.{FileIs}
 use Rattle.watch_cli.specs.Session.{WatchState}
-use Rattle.watch_cli.proofs.TopLemmas.{Judged, both-judged, patterns-judged, run-before, run-ends, run-either, file-halts, follow-halts}
+use Rattle.watch_cli.specs.declared.halt.InputFile.TheVariants.{Graph, Patterns}
+use Rattle.watch_cli.proofs.TopLemmas.{Judged, both-judged, graph-judged, patterns-judged, run-before, run-ends, run-either, file-halts, follow-halts}
 use Rattle.watch_cli.proofs.watch.watch_updates.Goals as goal
 
-pub returns-in_err-patterns-clause-front : goal.returns-in_err-patterns-clause-front
-returns-in_err-patterns-clause-front g c =
+pub returns-in-Err-clause-front : goal.returns-in-Err-clause-front
+returns-in-Err-clause-front g c =
     run-before c.args.limits.now (g.F.Shelf.files c.args.shelf.now) (Some (Watch c.args.graph_name.now c.args.patterns_name.now)) (g.S.Source.left c.args.updates.now) (g.W.Sink.taken c.args.out.now)
 
-pub returns-in_err-patterns-clause-halt : goal.returns-in_err-patterns-clause-halt
-returns-in_err-patterns-clause-halt g c =
+pub returns-in-Err-clause-halt : goal.returns-in-Err-clause-halt
+returns-in-Err-clause-halt g c =
     let shape : Shape = Watch c.args.graph_name.now c.args.patterns_name.now in
-    let p = err_from_is_err_and c.from_residual-in_err-patterns.result c.from_residual-in_err-patterns.ensures.1 in
-    rw (p.1, p.2) (file-halts c.args.limits.now (g.F.Shelf.files c.args.shelf.now) shape
+    rw c.of.ensures (file-halts c.args.limits.now (g.F.Shelf.files c.args.shelf.now) shape
+    (g.F.Shelf.faults c.args.shelf.now) (g.F.Shelf.faults c.args.shelf.now) (g.F.Shelf.faults c.read_graph.new.shelf)
+    (g.S.Source.faults c.args.updates.now) (g.S.Source.faults c.args.updates.now) (g.S.Source.left c.args.updates.now) (g.W.Sink.taken c.args.out.now)
+    (λ v. FileIs (g.F.Shelf.files c.args.shelf.now) c.args.graph_name.now (graph_file c.args.limits.now) (Err v))
+    (Rose (g.W.Sink.faults c.args.out.now) (g.W.Sink.faults c.args.out.now)) Graph c.in-Err.stop
+    (λ v e. graph-judged Watched shape c.args.graph_name.now c.args.patterns_name.now c.args.limits.now (g.F.Shelf.files c.args.shelf.now) v (λ m. refl) e)
+    (omega arith) c.in-Err.ensures.stop)
+
+pub returns-in-Err-read_patterns-clause-front : goal.returns-in-Err-read_patterns-clause-front
+returns-in-Err-read_patterns-clause-front g c =
+    run-before c.args.limits.now (g.F.Shelf.files c.args.shelf.now) (Some (Watch c.args.graph_name.now c.args.patterns_name.now)) (g.S.Source.left c.args.updates.now) (g.W.Sink.taken c.args.out.now)
+
+pub returns-in-Err-read_patterns-clause-halt : goal.returns-in-Err-read_patterns-clause-halt
+returns-in-Err-read_patterns-clause-halt g c =
+    let shape : Shape = Watch c.args.graph_name.now c.args.patterns_name.now in
+    rw c.of-in-Err-read_patterns.ensures (file-halts c.args.limits.now (g.F.Shelf.files c.args.shelf.now) shape
     (g.F.Shelf.faults c.args.shelf.now) (g.F.Shelf.faults c.read_graph.new.shelf) (g.F.Shelf.faults c.read_patterns.new.shelf)
     (g.S.Source.faults c.args.updates.now) (g.S.Source.faults c.args.updates.now) (g.S.Source.left c.args.updates.now) (g.W.Sink.taken c.args.out.now)
     (λ v. FileIs (g.F.Shelf.files c.read_graph.new.shelf) c.args.patterns_name.now (pattern_file c.args.limits.now) (Err v))
-    (Rose (g.W.Sink.faults c.args.out.now) (g.W.Sink.faults c.args.out.now)) _
-    (λ v e. patterns-judged Watched shape c.args.graph_name.now c.args.patterns_name.now c.args.limits.now (g.F.Shelf.files c.args.shelf.now) (g.F.Shelf.files c.read_graph.new.shelf) c.in_ok-graph.graph.graph v
-    (λ m. refl) c.in_ok-graph.ensures.same c.in_ok-graph.ensures.ok e)
-    c.in_ok-graph.ensures.later c.in_err-patterns.ensures.halt)
+    (Rose (g.W.Sink.faults c.args.out.now) (g.W.Sink.faults c.args.out.now)) Patterns c.in-Err-read_patterns.stop
+    (λ v e. patterns-judged Watched shape c.args.graph_name.now c.args.patterns_name.now c.args.limits.now (g.F.Shelf.files c.args.shelf.now) (g.F.Shelf.files c.read_graph.new.shelf) c.in-Ok.graph.graph v
+    (λ m. refl) c.in-Ok.ensures.same c.in-Ok.ensures.ok e)
+    c.in-Ok.ensures.later c.in-Err-read_patterns.ensures.stop)
 
 pub returns-clause-ok : goal.returns-clause-ok
 returns-clause-ok g c =
     let shape : Shape = Watch c.args.graph_name.now c.args.patterns_name.now in
     let judged : Judged c.args.limits.now (g.F.Shelf.files c.args.shelf.now) (Some shape) (Ok (Watched c.new-session.result.graph c.new-session.result.patterns)) =
     subst (λ (w : WatchState). Judged c.args.limits.now (g.F.Shelf.files c.args.shelf.now) (Some shape) (Ok (Watched w.graph w.patterns))) (sym c.new-session.ensures)
-    (both-judged Watched shape c.args.graph_name.now c.args.patterns_name.now c.args.limits.now (g.F.Shelf.files c.args.shelf.now) (g.F.Shelf.files c.read_graph.new.shelf) c.in_ok-graph.graph.graph c.in_ok-patterns.patterns
-    (λ m. refl) c.in_ok-graph.ensures.same c.in_ok-graph.ensures.ok c.in_ok-patterns.ensures.ok) in
+    (both-judged Watched shape c.args.graph_name.now c.args.patterns_name.now c.args.limits.now (g.F.Shelf.files c.args.shelf.now) (g.F.Shelf.files c.read_graph.new.shelf) c.in-Ok.graph.graph c.in-Ok-read_patterns.patterns
+    (λ m. refl) c.in-Ok.ensures.same c.in-Ok.ensures.ok c.in-Ok-read_patterns.ensures.ok) in
     on_ok_weaker c.follow.result
     (λ e. run-ends c.args.limits.now (g.F.Shelf.files c.args.shelf.now) shape (g.S.Source.left c.args.updates.now) (g.W.Sink.taken c.args.out.now) (g.W.Sink.taken c.follow.new.out)
     (Watched c.new-session.result.graph c.new-session.result.patterns) Done judged e)
@@ -41,8 +56,8 @@ returns-clause-front g c =
     let shape : Shape = Watch c.args.graph_name.now c.args.patterns_name.now in
     let judged : Judged c.args.limits.now (g.F.Shelf.files c.args.shelf.now) (Some shape) (Ok (Watched c.new-session.result.graph c.new-session.result.patterns)) =
     subst (λ (w : WatchState). Judged c.args.limits.now (g.F.Shelf.files c.args.shelf.now) (Some shape) (Ok (Watched w.graph w.patterns))) (sym c.new-session.ensures)
-    (both-judged Watched shape c.args.graph_name.now c.args.patterns_name.now c.args.limits.now (g.F.Shelf.files c.args.shelf.now) (g.F.Shelf.files c.read_graph.new.shelf) c.in_ok-graph.graph.graph c.in_ok-patterns.patterns
-    (λ m. refl) c.in_ok-graph.ensures.same c.in_ok-graph.ensures.ok c.in_ok-patterns.ensures.ok) in
+    (both-judged Watched shape c.args.graph_name.now c.args.patterns_name.now c.args.limits.now (g.F.Shelf.files c.args.shelf.now) (g.F.Shelf.files c.read_graph.new.shelf) c.in-Ok.graph.graph c.in-Ok-read_patterns.patterns
+    (λ m. refl) c.in-Ok.ensures.same c.in-Ok.ensures.ok c.in-Ok-read_patterns.ensures.ok) in
     run-either c.follow.result c.args.limits.now (g.F.Shelf.files c.args.shelf.now) shape (g.S.Source.left c.args.updates.now) (g.W.Sink.taken c.args.out.now) (g.W.Sink.taken c.follow.new.out)
     (Watched c.new-session.result.graph c.new-session.result.patterns) judged c.follow.ensures.ok c.follow.ensures.front
 
@@ -51,8 +66,8 @@ returns-clause-halt g c =
     let shape : Shape = Watch c.args.graph_name.now c.args.patterns_name.now in
     let judged : Judged c.args.limits.now (g.F.Shelf.files c.args.shelf.now) (Some shape) (Ok (Watched c.new-session.result.graph c.new-session.result.patterns)) =
     subst (λ (w : WatchState). Judged c.args.limits.now (g.F.Shelf.files c.args.shelf.now) (Some shape) (Ok (Watched w.graph w.patterns))) (sym c.new-session.ensures)
-    (both-judged Watched shape c.args.graph_name.now c.args.patterns_name.now c.args.limits.now (g.F.Shelf.files c.args.shelf.now) (g.F.Shelf.files c.read_graph.new.shelf) c.in_ok-graph.graph.graph c.in_ok-patterns.patterns
-    (λ m. refl) c.in_ok-graph.ensures.same c.in_ok-graph.ensures.ok c.in_ok-patterns.ensures.ok) in
+    (both-judged Watched shape c.args.graph_name.now c.args.patterns_name.now c.args.limits.now (g.F.Shelf.files c.args.shelf.now) (g.F.Shelf.files c.read_graph.new.shelf) c.in-Ok.graph.graph c.in-Ok-read_patterns.patterns
+    (λ m. refl) c.in-Ok.ensures.same c.in-Ok.ensures.ok c.in-Ok-read_patterns.ensures.ok) in
     IfErr-weaker c.follow.result _ _
     (λ h so. follow-halts c.args.limits.now (g.F.Shelf.files c.args.shelf.now) shape (g.F.Shelf.faults c.args.shelf.now) (g.F.Shelf.faults c.read_patterns.new.shelf)
     (g.S.Source.faults c.args.updates.now) (g.S.Source.faults c.follow.new.updates) (g.W.Sink.faults c.args.out.now) (g.W.Sink.faults c.follow.new.out)

@@ -1,0 +1,4 @@
+pub mod JudgedLemmas
+pub mod FileLemmas
+pub mod GraphFileLemmas
+pub mod InputLemmas

@@ -1,0 +1,4 @@
+pub mod FileContents
+pub mod ReadingStops
+pub mod FileProgress
+pub mod AfterLine
