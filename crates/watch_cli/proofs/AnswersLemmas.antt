@@ -15,6 +15,7 @@ use Rattle.delta_report.proofs.ListingLemmas.{answer_deltas-have_patterns, match
 pub listed-patterns : (g : Graph) (kept lent : List PatternGraph) (deltas : List Delta) → lent ≡ kept → AreReordered (answer_deltas 0 g kept) deltas → HavePatterns (length lent) deltas
 listed-patterns g kept lent deltas is of = answer_deltas-have_patterns g lent deltas (subst (λ (qs : List PatternGraph). AreReordered (answer_deltas 0 g qs) deltas) (sym is) of)
 
+-- the text that was written is that of the listing
 pub listed-text : (g : Graph) (patterns kept lent : List PatternGraph) (deltas : List Delta) (old new : List ℕ) → IsTrue (is_ascending vertex_cmp g.vertices) → kept ≡ patterns → lent ≡ kept
     → AreReordered (answer_deltas 0 g kept) deltas → ((sorted : List Delta) → AreSorted deltas sorted → new ≡ old ++ answers_text lent sorted) → new ≡ old ++ match_text g patterns
 listed-text g patterns kept lent deltas old new ascending same is of written =

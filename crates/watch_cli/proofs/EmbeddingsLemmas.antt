@@ -10,7 +10,7 @@ use Rattle.flux_model.specs.declared.maps.Delta.{Delta}
 use Rattle.flux_model.specs.Deltas.{with_delta, change_deltas}
 use Rattle.flux_model.proofs.DeltasLemmas.{with_delta-append}
 use Rattle.flux_model.proofs.PlaceLemmas.{take_next, drop_here}
-use Rattle.watch_cli.specs.Deltas.{embeddings_of, deltas_from}
+use Rattle.watch_cli.specs.PatternDeltas.{embeddings_of, deltas_from}
 
 module _ {X : Type 0} where
   -- the test holds of the element at i
@@ -29,16 +29,19 @@ filter-parts p (x ∷ xs) ys = by (p x) (filter-parts p xs ys)
     by true e = ap (λ l. x ∷ l) e
     by false e = e
 
+-- one map more that was compared
 pub without_next : (maps others kept new : List (List ℕ)) (i : ℕ) (m : List ℕ) → slice_get maps i ≡ Some m → kept ≡ without (take i maps) others → new ≡ kept ++ without (m ∷ []) others → new ≡ without (take (i + 1) maps) others
 without_next maps others kept new i m e before now =
     now ∙ ap (λ l. l ++ without (m ∷ []) others) before ∙ sym (ap (λ l. without l others) (take_next maps i m e) ∙ filter-parts _ (take i maps) (m ∷ []))
 
+-- the embeddings of one pattern more
 pub embeddings_next : (g : Graph) (patterns : List PatternGraph) (found new : List (List (List ℕ))) (k : ℕ) (q : PatternGraph) (maps : List (List ℕ)) → slice_get patterns k ≡ Some q
     → found ≡ embeddings_of g (take k patterns) → maps ≡ embeddings q g → new ≡ found ++ maps ∷ [] → new ≡ embeddings_of g (take (k + 1) patterns)
 embeddings_next g patterns found new k q maps e before is now =
     now ∙ ap (λ l. l ++ maps ∷ []) before ∙ ap (λ m. embeddings_of g (take k patterns) ++ m ∷ []) is
     ∙ sym (ap (embeddings_of g) (take_next patterns k q e) ∙ map-append (λ q. embeddings q g) (take k patterns) (q ∷ []))
 
+-- one id more that was copied
 pub copy_next : (m copy new : List ℕ) (i x : ℕ) → i < length m → x ≡ get_or m i 0 → copy ≡ take i m → new ≡ copy ++ x ∷ [] → new ≡ take (i + 1) m
 copy_next m copy new i x h e before now = now ∙ ap (λ l. l ++ x ∷ []) before ∙ ap (λ y. take i m ++ y ∷ []) e ∙ sym (take_more m i 0 h)
 
@@ -47,6 +50,7 @@ copy_next m copy new i x h e before now = now ∙ ap (λ l. l ++ x ∷ []) befor
 from_here : {X : Type 0} (xs : List X) (i : ℕ) (y : X) → i < length xs → y ≡ get_or xs i y → drop i xs ≡ y ∷ drop (i + 1) xs
 from_here xs i y h e = drop_more xs i y h ∙ ap (λ z. z ∷ drop (i + 1) xs) (sym e)
 
+-- the delta of one pattern more
 pub deltas_next : (before after : List (List (List ℕ))) (deltas new : List Delta) (i : ℕ) (b a gained lost : List (List ℕ))
     → i < length before → i < length after → b ≡ get_or before i b → a ≡ get_or after i a → gained ≡ without a b → lost ≡ without b a
     → deltas ++ deltas_from i (drop i before) (drop i after) ≡ deltas_from 0 before after → new ≡ deltas ++ with_delta (record { pattern = i; gained = gained; lost = lost }) []
@@ -63,6 +67,7 @@ deltas_next before after deltas new i b a gained lost hb ha eb ea g l so now =
     ∙ ap (λ n. deltas ++ with_delta e (deltas_from n (drop (i + 1) before) (drop (i + 1) after))) (omega arith)
     ∙ ap (λ r. deltas ++ r) (sym step) ∙ so
 
+-- a delta of pattern n goes behind those of the patterns below n
 pub above_all : (n : ℕ) (ds : List Delta) (d : Delta) → d.pattern ≡ n → AllByRecursion (λ (e : Delta). e.pattern < n) ds → AllByRecursion (λ (e : Delta). e.pattern < d.pattern) ds
 above_all n ds d is a = rw is a
 
@@ -71,5 +76,6 @@ pub deltas-change : (i : ℕ) (g h : Graph) (qs : List PatternGraph) → deltas_
 deltas-change i g h [] = refl
 deltas-change i g h (q ∷ qs) = ap (with_delta (record { pattern = i; gained = without (embeddings q h) (embeddings q g); lost = without (embeddings q g) (embeddings q h) })) (deltas-change (suc i) g h qs)
 
+-- so do lists that are known to be these
 pub deltas_of_change : (g h : Graph) (qs : List PatternGraph) (before after : List (List (List ℕ))) (ds : List Delta) → before ≡ embeddings_of g qs → after ≡ embeddings_of h qs → ds ≡ deltas_from 0 before after → ds ≡ change_deltas 0 g h qs
 deltas_of_change g h qs before after ds b a is = is ∙ ap (λ l. deltas_from 0 l after) b ∙ ap (deltas_from 0 (embeddings_of g qs)) a ∙ deltas-change 0 g h qs

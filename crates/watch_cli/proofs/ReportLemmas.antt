@@ -20,11 +20,12 @@ use Rattle.stream_lines.specs.Waiting.{Waiting}
 use Rattle.stream_lines.specs.Follows.{Follows}
 use Rattle.stream_lines.proofs.CallerLemmas.{length-whole, rest-nil}
 use Rattle.watch_cli.specs.Session.{WatchState, first_state, said_by, counted, after_said, after_all, next_block, next_blocks, end_text, last_text}
-use Rattle.watch_cli.specs.Wrote.{Wrote}
+use Rattle.watch_cli.specs.ReportProgress.{Wrote}
 use Rattle.watch_cli.specs.UpdatesProgress.{Followed}
 
 -- ---- the session, line by line
 
+-- after lines and then more
 pub after_all-append : (s : WatchState) (xs ys : List (Said Update)) → after_all s (xs ++ ys) ≡ after_all (after_all s xs) ys
 after_all-append s [] ys = refl
 after_all-append s (x ∷ xs) ys = after_all-append (after_said s x) xs ys
@@ -33,6 +34,7 @@ after_all-append s (x ∷ xs) ys = after_all-append (after_said s x) xs ys
 next_blocks-cons : (s : WatchState) (x : Said Update) (xs : List (Said Update)) → next_blocks s (x ∷ xs) ≡ next_block s x ++ next_blocks (after_said s x) xs
 next_blocks-cons s x xs = ap (λ k. next_block s x ++ blocks s.limits s.patterns (next_graph s.limits s.graph x) xs k) (omega arith)
 
+-- the blocks of lines and then of more
 pub next_blocks-append : (s : WatchState) (xs ys : List (Said Update)) → next_blocks s (xs ++ ys) ≡ next_blocks s xs ++ next_blocks (after_all s xs) ys
 next_blocks-append s [] ys = refl
 next_blocks-append s (x ∷ xs) ys =
@@ -40,12 +42,14 @@ next_blocks-append s (x ∷ xs) ys =
     ∙ sym (append_assoc (next_block s x) (next_blocks (after_said s x) xs) (next_blocks (after_all (after_said s x) xs) ys))
     ∙ ap (λ t. t ++ next_blocks (after_all (after_said s x) xs) ys) (sym (next_blocks-cons s x xs))
 
+-- the last text of lines and then of more
 pub last_text-append : (s : WatchState) (xs ys : List (Said Update)) → last_text s (xs ++ ys) ≡ next_blocks s xs ++ last_text (after_all s xs) ys
 last_text-append s xs ys =
     ap (λ t. t ++ end_text (after_all s (xs ++ ys))) (next_blocks-append s xs ys)
     ∙ append_assoc (next_blocks s xs) (next_blocks (after_all s xs) ys) (end_text (after_all s (xs ++ ys)))
     ∙ ap (λ z. next_blocks s xs ++ (next_blocks (after_all s xs) ys ++ end_text z)) (after_all-append s xs ys)
 
+-- each line counts as one
 pub lines-after : (s : WatchState) (xs : List (Said Update)) → (after_all s xs).lines ≡ s.lines + length xs
 lines-after s [] = omega arith
 lines-after s (x ∷ xs) = lines-after (after_said s x) xs ∙ omega arith
@@ -80,16 +84,20 @@ last_text-first limits g patterns xs =
 
 -- ---- known bytes and front parts
 
+-- where nothing was put
 pub AppendsFront-nothing : (put : Option (List ℕ)) (text : List ℕ) → AppendsFront put put text
 AppendsFront-nothing put text = ([], text, refl, Appends-nil put)
 
+-- where all was put
 pub AppendsFront-all : (p0 p1 : Option (List ℕ)) (text : List ℕ) → Appends p0 p1 text → AppendsFront p0 p1 text
 AppendsFront-all p0 p1 text put = (text, [], sym (append-nil text), put)
 
+-- of a longer text
 pub AppendsFront-longer : (p0 p1 : Option (List ℕ)) (text more : List ℕ) → AppendsFront p0 p1 text → AppendsFront p0 p1 (text ++ more)
 AppendsFront-longer p0 p1 text more front =
     (front.0, front.1 ++ more, ap (λ t. t ++ more) front.2 ∙ append_assoc front.0 front.1 more, front.3)
 
+-- of what comes behind what was put
 pub AppendsFront-after : (p0 p1 p2 : Option (List ℕ)) (done text : List ℕ) → Appends p0 p1 done → AppendsFront p1 p2 text → AppendsFront p0 p2 (done ++ text)
 AppendsFront-after p0 p1 p2 done text put front =
     (done ++ front.0, front.1, ap (λ t. done ++ t) front.2 ∙ sym (append_assoc done front.0 front.1), Appends-trans p0 p1 p2 done front.0 put front.3)
@@ -118,15 +126,18 @@ put_either (Err e) p0 p1 text put front = front
 
 -- ---- the blocks of the lines that wait
 
+-- of the blocks of all lines a part was put, then comes what waits in the report, and then the blocks of the lines that are left
 pub record Reported (put0 put1 : Option (List ℕ)) (report : List ℕ) (first now : WatchState) (all left : List (Said Update)) : Type 0 where
   pub part : List ℕ
   pub put : Appends put0 put1 part
   pub whole : part ++ (report ++ next_blocks now left) ≡ next_blocks first all
   pub state : after_all now left ≡ after_all first all
 
+-- before the first line
 pub Reported-start : (put : Option (List ℕ)) (report : List ℕ) (s : WatchState) (all : List (Said Update)) → report ≡ [] → Reported put put report s s all all
 Reported-start put report s all none = record { part = []; put = Appends-nil put; whole = ap (λ t. t ++ next_blocks s all) none; state = refl }
 
+-- a line more
 pub Reported-next : (p0 p1 p2 : Option (List ℕ)) (report1 report2 : List ℕ) (first now next : WatchState) (all left : List (Said Update)) (said : Said Update)
     → Reported p0 p1 report1 first now all (said ∷ left) → Wrote p1 p2 report1 report2 (next_block now said) → next ≡ after_said now said
     → Reported p0 p2 report2 first next all left
@@ -142,6 +153,7 @@ Reported-next p0 p1 p2 report1 report2 first now next all left said so wrote aft
       state = ap (λ (z : WatchState). after_all z left) after ∙ so.state;
     }
 
+-- a line of which a front part was put
 pub Reported-short : (p0 p1 p2 : Option (List ℕ)) (report1 : List ℕ) (first now : WatchState) (all left : List (Said Update)) (said : Said Update)
     → Reported p0 p1 report1 first now all (said ∷ left) → AppendsFront p1 p2 (report1 ++ next_block now said) → AppendsFront p0 p2 (next_blocks first all)
 Reported-short p0 p1 p2 report1 first now all left said so front =
@@ -154,21 +166,25 @@ queue-cons : (q : List InputLine) (x : InputLine) → x ∷ [] ≡ take 1 q → 
 queue-cons [] x e = cc
 queue-cons (y ∷ q) x e = let same : y ≡ x = cc in ap (λ z. update_reading z ∷ said_by q) same
 
+-- the first of the lines that wait is taken
 pub Reported-turn : (p0 p1 p2 : Option (List ℕ)) (report1 report2 : List ℕ) (first now next : WatchState) (all : List (Said Update)) (q : List InputLine) (x : InputLine)
     → x ∷ [] ≡ take 1 q → Reported p0 p1 report1 first now all (said_by q) → Wrote p1 p2 report1 report2 (next_block now (update_reading x)) → next ≡ after_said now (update_reading x)
     → Reported p0 p2 report2 first next all (said_by (drop 1 q))
 Reported-turn p0 p1 p2 report1 report2 first now next all q x e so wrote after =
     Reported-next p0 p1 p2 report1 report2 first now next all (said_by (drop 1 q)) (update_reading x) (subst (Reported p0 p1 report1 first now all) (queue-cons q x e) so) wrote after
 
+-- the first of the lines that wait stops it
 pub Reported-stops : (p0 p1 p2 : Option (List ℕ)) (report1 : List ℕ) (first now : WatchState) (all : List (Said Update)) (q : List InputLine) (x : InputLine)
     → x ∷ [] ≡ take 1 q → Reported p0 p1 report1 first now all (said_by q) → AppendsFront p1 p2 (report1 ++ next_block now (update_reading x)) → AppendsFront p0 p2 (next_blocks first all)
 Reported-stops p0 p1 p2 report1 first now all q x e so front =
     Reported-short p0 p1 p2 report1 first now all (said_by (drop 1 q)) (update_reading x) (subst (Reported p0 p1 report1 first now all) (queue-cons q x e) so) front
 
+-- a line that is taken waits no more
 pub one_less : (q : List InputLine) (x : InputLine) → x ∷ [] ≡ take 1 q → length q ≡ length (drop 1 q) + 1
 one_less [] x e = cc
 one_less (y ∷ q) x e = omega arith
 
+-- where there is no first line
 pub nothing_waits : (q : List InputLine) → [] ≡ take 1 q → q ≡ []
 nothing_waits [] e = refl
 nothing_waits (x ∷ q) e = cc
@@ -177,11 +193,13 @@ nothing_waits (x ∷ q) e = cc
 all_reported : (p0 p1 : Option (List ℕ)) (report : List ℕ) (first now : WatchState) (all : List (Said Update)) (so : Reported p0 p1 report first now all []) → so.part ++ report ≡ next_blocks first all
 all_reported p0 p1 report first now all so = ap (λ t. so.part ++ t) (sym (append-nil report)) ∙ so.whole
 
+-- then the report was put
 pub Reported-end : (p0 p1 p2 : Option (List ℕ)) (report : List ℕ) (first now : WatchState) (all : List (Said Update))
     → Reported p0 p1 report first now all [] → Appends p1 p2 report → Appends p0 p2 (next_blocks first all)
 Reported-end p0 p1 p2 report first now all so put =
     subst (Appends p0 p2) (all_reported p0 p1 report first now all so) (Appends-trans p0 p1 p2 so.part report so.put put)
 
+-- then a front part of the report was put
 pub Reported-end_short : (p0 p1 p2 : Option (List ℕ)) (report : List ℕ) (first now : WatchState) (all : List (Said Update))
     → Reported p0 p1 report first now all [] → AppendsFront p1 p2 report → AppendsFront p0 p2 (next_blocks first all)
 Reported-end_short p0 p1 p2 report first now all so front =
@@ -189,17 +207,21 @@ Reported-end_short p0 p1 p2 report first now all so front =
 
 -- ---- the last line and the end line
 
+-- the end line was put behind it
 pub ended_by : (p0 p1 p2 : Option (List ℕ)) (report text end : List ℕ) → Wrote p0 p1 [] report text → Appends p1 p2 (report ++ end) → Appends p0 p2 (text ++ end)
 ended_by p0 p1 p2 report text end wrote put =
     subst (Appends p0 p2) (sym (append_assoc wrote.part report end) ∙ ap (λ t. t ++ end) wrote.whole) (Appends-trans p0 p1 p2 wrote.part (report ++ end) wrote.put put)
 
+-- a front part of it with the end line was put
 pub ended_short : (p0 p1 p2 : Option (List ℕ)) (report text end : List ℕ) → Wrote p0 p1 [] report text → AppendsFront p1 p2 (report ++ end) → AppendsFront p0 p2 (text ++ end)
 ended_short p0 p1 p2 report text end wrote front =
     subst (AppendsFront p0 p2) (sym (append_assoc wrote.part report end) ∙ ap (λ t. t ++ end) wrote.whole) (AppendsFront-after p0 p1 p2 wrote.part (report ++ end) wrote.put front)
 
+-- the last text where one line is left
 pub last_one : (s : WatchState) (x : Said Update) → last_text s (x ∷ []) ≡ next_block s x ++ end_text (after_said s x)
 last_one s x = ap (λ t. t ++ end_text (after_said s x)) (append-nil (next_block s x))
 
+-- the last line and the end line were put
 pub last_put : (p0 p1 p2 : Option (List ℕ)) (waited report : List ℕ) (s next : WatchState) (x : Said Update) → waited ≡ [] → Wrote p0 p1 waited report (next_block s x) → next ≡ after_said s x
     → Appends p1 p2 (report ++ end_text next) → Appends p0 p2 (last_text s (x ∷ []))
 last_put p0 p1 p2 waited report s next x none wrote after put =
@@ -207,6 +229,7 @@ last_put p0 p1 p2 waited report s next x none wrote after put =
     (ended_by p0 p1 p2 report (next_block s x) (end_text (after_said s x)) (subst (λ w. Wrote p0 p1 w report (next_block s x)) none wrote)
     (subst (λ (z : WatchState). Appends p1 p2 (report ++ end_text z)) after put))
 
+-- a front part of the last line and the end line was put
 pub last_short : (p0 p1 p2 : Option (List ℕ)) (waited report : List ℕ) (s next : WatchState) (x : Said Update) → waited ≡ [] → Wrote p0 p1 waited report (next_block s x) → next ≡ after_said s x
     → AppendsFront p1 p2 (report ++ end_text next) → AppendsFront p0 p2 (last_text s (x ∷ []))
 last_short p0 p1 p2 waited report s next x none wrote after front =
@@ -214,6 +237,7 @@ last_short p0 p1 p2 waited report s next x none wrote after front =
     (ended_short p0 p1 p2 report (next_block s x) (end_text (after_said s x)) (subst (λ w. Wrote p0 p1 w report (next_block s x)) none wrote)
     (subst (λ (z : WatchState). AppendsFront p1 p2 (report ++ end_text z)) after front))
 
+-- the last line stopped it
 pub last_stopped : (p0 p1 : Option (List ℕ)) (waited : List ℕ) (s : WatchState) (x : Said Update) → waited ≡ [] → AppendsFront p0 p1 (waited ++ next_block s x) → AppendsFront p0 p1 (last_text s (x ∷ []))
 last_stopped p0 p1 waited s x none front =
     subst (AppendsFront p0 p1) (sym (last_one s x)) (AppendsFront-longer p0 p1 (next_block s x) (end_text (after_said s x)) (subst (λ w. AppendsFront p0 p1 (w ++ next_block s x)) none front))
@@ -222,11 +246,13 @@ last_stopped p0 p1 waited s x none front =
 pub none_put : (p0 p1 : Option (List ℕ)) (waited : List ℕ) (s : WatchState) → waited ≡ [] → Appends p0 p1 (waited ++ end_text s) → Appends p0 p1 (last_text s [])
 none_put p0 p1 waited s none put = subst (λ w. Appends p0 p1 (w ++ end_text s)) none put
 
+-- no last line, and a front part of the end line was put
 pub none_short : (p0 p1 : Option (List ℕ)) (waited : List ℕ) (s : WatchState) → waited ≡ [] → AppendsFront p0 p1 (waited ++ end_text s) → AppendsFront p0 p1 (last_text s [])
 none_short p0 p1 waited s none front = subst (λ w. AppendsFront p0 p1 (w ++ end_text s)) none front
 
 -- ---- the updates, piece by piece
 
+-- before the first read
 pub Followed-start : (n : ℕ) (left put : Option (List ℕ)) (s : WatchState) (waiting : Waiting) → waiting ≡ record { line_bytes = n; queue = []; rest = held [] } → Followed n 0 left left put put s s waiting
 Followed-start n left put s waiting is = record {
   bytes = [];
@@ -263,11 +289,13 @@ lines_fit n given count l0 l1 p0 p1 first now w0 w1 piece so follows len =
     let before : now.lines ≡ first.lines + length (said_by (whole n so.bytes)) = ap (λ (s : WatchState). s.lines) so.state ∙ lines-after first (said_by (whole n so.bytes)) in
     omega (arith, before, length-map (whole n so.bytes) update_reading, so.count, len, length-whole n (so.bytes ++ piece), ap length add, length-append (whole n so.bytes) w1.queue, length-append so.bytes piece)
 
+-- so does the number of lines before a read
 pub some_lines_fit : (n given : ℕ) (l0 l1 p0 p1 : Option (List ℕ)) (first now : WatchState) (w : Waiting) → Followed n given l0 l1 p0 p1 first now w → now.lines ≤ first.lines + given
 some_lines_fit n given l0 l1 p0 p1 first now w so =
     let before : now.lines ≡ first.lines + length (said_by (whole n so.bytes)) = ap (λ (s : WatchState). s.lines) so.state ∙ lines-after first (said_by (whole n so.bytes)) in
     omega (arith, before, length-map (whole n so.bytes) update_reading, so.count, length-whole n so.bytes)
 
+-- the blocks of the lines that a piece ends were put
 pub Followed-next : (n given count : ℕ) (l0 l1 l2 p0 p1 p2 : Option (List ℕ)) (first now next : WatchState) (w0 w1 w2 : Waiting) (piece : List ℕ) → Followed n given l0 l1 p0 p1 first now w0
     → Consumes l1 l2 piece → count ≡ length piece
     → ((b : List ℕ) → rest w0.line_bytes b ≡ w0.rest → Follows b piece w0 w1) → w1.line_bytes ≡ w0.line_bytes

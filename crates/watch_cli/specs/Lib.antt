@@ -1,9 +1,9 @@
-pub mod Words
+pub mod CommandWords
 pub mod Status
 pub mod Session
-pub mod Answer
-pub mod Deltas
-pub mod Wrote
-pub mod Halts
-pub mod Ends
+pub mod LineAnswers
+pub mod PatternDeltas
+pub mod ReportProgress
 pub mod UpdatesProgress
+pub mod RunEnds
+pub mod EarlyEnds

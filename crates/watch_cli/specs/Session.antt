@@ -9,7 +9,8 @@ use Rattle.flux_model.specs.declared.said.Said.{Said}
 use Rattle.flux_model.specs.declared.graph.Update.{Update}
 use Rattle.flux_model.specs.declared.limits.Limits.{Limits}
 
--- the graph as it stands, under its limits; the patterns; and how many lines there were, of which so many changed the graph and so many were refused
+-- the graph as it stands, under its limits; the patterns; and how many lines there were, of which so many changed the graph and so many
+-- were refused
 pub record WatchState : Type 0 where
   pub limits : Limits
   pub graph : Graph
@@ -30,6 +31,7 @@ said_by lines = map update_reading lines
 abbrev pub counted : Bool → ℕ → ℕ
 counted b n = if b then n + 1 else n
 
+-- after a line that came to this
 abbrev pub after_outcome : WatchState → Outcome → WatchState
 after_outcome s o = record s {
   graph = graph_after s.graph o;
@@ -47,10 +49,11 @@ abbrev pub after_all : WatchState → List (Said Update) → WatchState
 after_all s [] = s
 after_all s (said ∷ saids) = after_all (after_said s said) saids
 
--- the block of the next line, and those of the next lines
+-- the block of the next line
 abbrev pub next_block : WatchState → Said Update → List ℕ
 next_block s said = block s.limits (s.lines + 1) s.patterns s.graph said
 
+-- those of the next lines
 abbrev pub next_blocks : WatchState → List (Said Update) → List ℕ
 next_blocks s saids = blocks s.limits s.patterns s.graph saids (s.lines + 1)
 

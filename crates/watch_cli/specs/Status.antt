@@ -4,12 +4,14 @@ use Rattle.std.specs.Fmt.{decimal}
 use Rattle.flux_model.specs.Code.{code_word}
 use Rattle.flux_model.specs.declared.code.Code.{Code}
 use Rattle.watch_cli.specs.declared.status.Status.{Status}
-use Rattle.watch_cli.specs.declared.status.Status.TheVariants.{Done, Usage, BadGraph, BadPatterns, NoFile, ReadFault, WriteFault, Memory, TooMuch}
+use Rattle.watch_cli.specs.declared.status.Status.TheVariants.{Done, Usage, NoFile, BadGraph, BadPatterns, TooMuch}
+use Rattle.watch_cli.specs.declared.status.Status.TheVariants.{ReadFault, WriteFault, Memory}
 
 -- where a file is refused, and why: `graph line 2: novertex`
 abbrev pub refusal_text : List ℕ → ℕ → Code → List ℕ
 refusal_text file line code = codes "turboflux: " ++ file ++ codes " line " ++ decimal line ++ codes ": " ++ code_word code ++ codes "\n"
 
+-- the line for standard error
 abbrev pub status_text : Status → List ℕ
 status_text Done = []
 status_text Usage = codes "turboflux: unknown command or wrong arguments\n"
@@ -21,6 +23,7 @@ status_text WriteFault = codes "turboflux: write fault\n"
 status_text Memory = codes "turboflux: out of memory\n"
 status_text TooMuch = codes "turboflux: input too large\n"
 
+-- the exit status
 abbrev pub status_number : Status → ℕ
 status_number Done = 0
 status_number Usage = 2

@@ -6,7 +6,8 @@ use Rattle.stream_lines.specs.Waiting.{Waiting}
 use Rattle.watch_cli.specs.Session.{WatchState, said_by, after_all, next_blocks}
 
 -- after so many bytes of the updates: the block of each whole line of them was put, and what has come of the next waits
-pub record Followed (line_bytes given : ℕ) (left0 left1 put0 put1 : Option (List ℕ)) (first now : WatchState) (waiting : Waiting) : Type 0 where
+pub record Followed (line_bytes given : ℕ) (left0 left1 put0 put1 : Option (List ℕ)) (first now : WatchState)
+    (waiting : Waiting) : Type 0 where
   pub bytes : List ℕ
   pub count : length bytes ≡ given
   pub read : Consumes left0 left1 bytes

@@ -7,11 +7,11 @@ ghost use Rattle.flux_model.specs.Graph.{empty_graph};
 ghost use Rattle.flux_model.specs.Limits.{IsFair};
 ghost use Rattle.flux_model.specs.Report.{match_text};
 ghost use Rattle.flux_model.specs.Verdict.{Match, Done};
-ghost use Rattle.watch_cli.specs.Ends.{RunEndsAs, RunEndsBefore, ReadFails};
-ghost use Rattle.watch_cli.specs.Halts.{WriteHalts, HaltWhere};
+ghost use Rattle.watch_cli.specs.RunEnds.{RunEndsAs, RunEndsBefore, ReadFails, StatusWhere};
+ghost use Rattle.watch_cli.specs.EarlyEnds.{IsEarly, WriteEnds};
 
-use crate::halt::{Halt, InputFile};
 use crate::report::put_report;
+use crate::status::{InputFile, Status};
 use delta_report::write_answers;
 use file_reading::{read_patterns, read_store};
 use flux_model::{Ledger, Limits, Patterns, Steps};
@@ -31,27 +31,29 @@ pub fn list_answers<F: Shelf, G: KeepGraph + ReadGraph<L>, W: Sink, L: Ledger>(
     shelf: &mut F,
     out: &mut W,
     steps: &mut Steps<L>,
-) -> Result<(), Halt>
+) -> Result<(), Status>
     requires fair { IsFair limits.now }
     requires limits { G.limits empty ≡ limits.now }
     requires empty { G.graph empty ≡ empty_graph }
-    ensures ok { (left : Option (List ℕ)) → OnOk result (RunEndsAs limits.now (F.files shelf.old) (Some (Match graph_name.now patterns_name.now))
+    ensures ok { (left : Option (List ℕ)) → OnOk result (
+        RunEndsAs limits.now (F.files shelf.old) (Some (Match graph_name.now patterns_name.now))
         left (W.taken out.old) (W.taken out.new) Done) }
     ensures front { (left : Option (List ℕ)) → RunEndsBefore limits.now (F.files shelf.old) (Some (Match graph_name.now patterns_name.now))
         left (W.taken out.old) (W.taken out.new) }
-    ensures halt { (left : Option (List ℕ)) (read : ℕ) → IfErr result (HaltWhere
+    ensures status { (left : Option (List ℕ)) (read : ℕ) → IfErr result (StatusWhere
         (RunEndsAs limits.now (F.files shelf.old) (Some (Match graph_name.now patterns_name.now)) left (W.taken out.old) (W.taken out.new))
         (ReadFails limits.now (F.files shelf.old) (Some (Match graph_name.now patterns_name.now))
         (F.faults shelf.old) (F.faults shelf.new) read read left left (W.taken out.old) (W.taken out.new))
         (Rose (W.faults out.old) (W.faults out.new))) }
+    ensures early { IfErr result IsEarly }
 {
     let graph = match read_store(alloc, limits, shelf, graph_name, empty) {
         Ok(graph) => graph,
-        Err(stop) => return Err(Halt::of(InputFile::Graph, stop)),
+        Err(stop) => return Err(Status::of(InputFile::Graph, stop)),
     };
     let patterns = match read_patterns(alloc, limits, shelf, patterns_name) {
         Ok(patterns) => patterns,
-        Err(stop) => return Err(Halt::of(InputFile::Patterns, stop)),
+        Err(stop) => return Err(Status::of(InputFile::Patterns, stop)),
     };
     put_answers(alloc, patterns, &graph, out, steps)
 }
@@ -63,14 +65,14 @@ fn put_answers<G: ReadGraph<L>, W: Sink, L: Ledger>(
     graph: &G,
     out: &mut W,
     steps: &mut Steps<L>,
-) -> Result<(), Halt>
+) -> Result<(), Status>
     ensures ok { OnOk result (Appends (W.taken out.old) (W.taken out.new) (match_text (G.graph graph.now) patterns)) }
     ensures err { OnErr result (AppendsFront (W.taken out.old) (W.taken out.new) (match_text (G.graph graph.now) patterns)) }
-    ensures halt { IfErr result (WriteHalts (W.faults out.old) (W.faults out.new)) }
+    ensures status { IfErr result (WriteEnds (W.faults out.old) (W.faults out.new)) }
 {
     let mut text = Vec::new(alloc);
     let Ok(()) = write_all(alloc, patterns, graph, &mut text, steps) else {
-        return Err(Halt::Memory);
+        return Err(Status::Memory);
     };
     put_report(&mut text, out)
 }

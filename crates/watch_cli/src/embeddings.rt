@@ -2,7 +2,7 @@
 ghost use Rattle.std.specs.Prelude.{◌≡◌, [], ◌∷◌, ◌++◌, length, IfOk, OnOk};
 ghost use Rattle.std.specs.List.{list_any};
 ghost use Rattle.flux_model.specs.Change.{same_map, without};
-ghost use Rattle.watch_cli.specs.Deltas.{embeddings_of, deltas_from};
+ghost use Rattle.watch_cli.specs.PatternDeltas.{embeddings_of, deltas_from};
 
 use flux_model::{Delta, Deltas, Map, Maps, Patterns};
 use plain_match::{PlainGraph, plain_all};

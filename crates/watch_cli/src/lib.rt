@@ -4,7 +4,6 @@
 //! - `watch`: the shape `watch GRAPH PATTERNS`; `updates`: its updates, read piece by piece; `session`: one line of them;
 //!   `embeddings`: what it changed; `report`: the blocks that are gathered and put.
 //! - `answers`: the shape `match GRAPH PATTERNS`; `save`: the shape `save GRAPH`.
-//! - `halt`: why a run ends early.
 #![tactic(auto)]
 
 mod answers;
@@ -13,7 +12,6 @@ mod answers_tests;
 mod embeddings;
 #[cfg(test)]
 mod example_tests;
-mod halt;
 #[cfg(test)]
 mod order_tests;
 mod report;

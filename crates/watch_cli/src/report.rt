@@ -6,11 +6,11 @@ ghost use Rattle.flux_model.specs.LentLine.{seen_line};
 ghost use Rattle.flux_model.specs.Reading.{update_reading};
 ghost use Rattle.watch_cli.specs.Session.{after_said, after_all, next_block, next_blocks, said_by, last_text, end_text};
 ghost use Rattle.stream_lines.specs.Lent.{one_line};
-ghost use Rattle.watch_cli.specs.Wrote.{Wrote};
-ghost use Rattle.watch_cli.specs.Halts.{WriteHalts};
+ghost use Rattle.watch_cli.specs.ReportProgress.{Wrote};
+ghost use Rattle.watch_cli.specs.EarlyEnds.{WriteEnds};
 
-use crate::halt::Halt;
 use crate::session::Session;
+use crate::status::Status;
 use flux_model::Line;
 use flux_outside::Sink;
 use std::alloc::Global;
@@ -20,12 +20,12 @@ use stream_lines::Lines;
 const LONG: usize = 65536;
 
 /// Puts the report, if there is one, and begins a new one.
-pub fn put_report<W: Sink>(report: &mut Vec<u8>, out: &mut W) -> Result<(), Halt>
+pub fn put_report<W: Sink>(report: &mut Vec<u8>, out: &mut W) -> Result<(), Status>
     ensures ok { OnOk result (Appends (W.taken out.old) (W.taken out.new) report.old.items) }
     ensures empty { OnOk result (report.new.items ≡ []) }
     ensures err { OnErr result (AppendsFront (W.taken out.old) (W.taken out.new) report.old.items) }
     ensures later { W.faults out.old ≤ W.faults out.new }
-    ensures halt { IfErr result (WriteHalts (W.faults out.old) (W.faults out.new)) }
+    ensures status { IfErr result (WriteEnds (W.faults out.old) (W.faults out.new)) }
 {
     if report.is_empty() {
         return Ok(());
@@ -35,7 +35,7 @@ pub fn put_report<W: Sink>(report: &mut Vec<u8>, out: &mut W) -> Result<(), Halt
             report.clear();
             Ok(())
         }
-        Err(_) => Err(Halt::Write),
+        Err(_) => Err(Status::WriteFault),
     }
 }
 
@@ -46,7 +46,7 @@ pub fn report_line<W: Sink>(
     line: &Line<'_>,
     report: &mut Vec<u8>,
     out: &mut W,
-) -> Result<(), Halt>
+) -> Result<(), Status>
     requires { session.old.lines < 2 ^ 60 }
     ensures after { OnOk result (session.new ≡ after_said session.old (update_reading (seen_line line.now))) }
     ensures ok { OnOk result (Wrote (W.taken out.old) (W.taken out.new) report.old.items report.new.items
@@ -54,11 +54,11 @@ pub fn report_line<W: Sink>(
     ensures err { OnErr result (AppendsFront (W.taken out.old) (W.taken out.new)
         (report.old.items ++ next_block session.old (update_reading (seen_line line.now)))) }
     ensures later { W.faults out.old ≤ W.faults out.new }
-    ensures halt { IfErr result (WriteHalts (W.faults out.old) (W.faults out.new)) }
+    ensures status { IfErr result (WriteEnds (W.faults out.old) (W.faults out.new)) }
 {
     let Ok(()) = session.line(alloc, line, report) else {
         let _ = put_report(report, out);
-        return Err(Halt::Memory);
+        return Err(Status::Memory);
     };
     if report.len() < LONG {
         return Ok(());
@@ -73,7 +73,7 @@ pub fn report_waiting<W: Sink>(
     lines: &mut Lines,
     report: &mut Vec<u8>,
     out: &mut W,
-) -> Result<(), Halt>
+) -> Result<(), Status>
     requires fits { session.old.lines + length lines.old.queue ≤ 2 ^ 60 }
     requires empty { report.old.items ≡ [] }
     ensures after { OnOk result (session.new ≡ after_all session.old (said_by lines.old.queue)) }
@@ -82,7 +82,7 @@ pub fn report_waiting<W: Sink>(
     ensures waiting { OnOk result (lines.new ≡ record lines.old { queue = [] }) }
     ensures err { OnErr result (AppendsFront (W.taken out.old) (W.taken out.new) (next_blocks session.old (said_by lines.old.queue))) }
     ensures later { W.faults out.old ≤ W.faults out.new }
-    ensures halt { IfErr result (WriteHalts (W.faults out.old) (W.faults out.new)) }
+    ensures status { IfErr result (WriteEnds (W.faults out.old) (W.faults out.new)) }
 {
     while let Some(line) = lines.first() {
         report_line(alloc, session, &line, report, out)?;
@@ -98,13 +98,13 @@ pub fn report_end<W: Sink>(
     last: Option<Line<'_>>,
     report: &mut Vec<u8>,
     out: &mut W,
-) -> Result<(), Halt>
+) -> Result<(), Status>
     requires fits { session.old.lines < 2 ^ 60 }
     requires empty { report.old.items ≡ [] }
     ensures ok { OnOk result (Appends (W.taken out.old) (W.taken out.new) (last_text session.old (said_by (one_line last.entry)))) }
     ensures err { OnErr result (AppendsFront (W.taken out.old) (W.taken out.new) (last_text session.old (said_by (one_line last.entry)))) }
     ensures later { W.faults out.old ≤ W.faults out.new }
-    ensures halt { IfErr result (WriteHalts (W.faults out.old) (W.faults out.new)) }
+    ensures status { IfErr result (WriteEnds (W.faults out.old) (W.faults out.new)) }
 {
     match last {
         None => end_report(session, report, out),
@@ -116,15 +116,15 @@ pub fn report_end<W: Sink>(
 }
 
 /// Puts the report with the end line behind it. Where memory is refused, what was gathered is put first.
-fn end_report<W: Sink>(session: &Session, report: &mut Vec<u8>, out: &mut W) -> Result<(), Halt>
+fn end_report<W: Sink>(session: &Session, report: &mut Vec<u8>, out: &mut W) -> Result<(), Status>
     ensures ok { OnOk result (Appends (W.taken out.old) (W.taken out.new) (report.old.items ++ end_text session.now)) }
     ensures err { OnErr result (AppendsFront (W.taken out.old) (W.taken out.new) (report.old.items ++ end_text session.now)) }
     ensures later { W.faults out.old ≤ W.faults out.new }
-    ensures halt { IfErr result (WriteHalts (W.faults out.old) (W.faults out.new)) }
+    ensures status { IfErr result (WriteEnds (W.faults out.old) (W.faults out.new)) }
 {
     let Ok(()) = session.end(report) else {
         let _ = put_report(report, out);
-        return Err(Halt::Memory);
+        return Err(Status::Memory);
     };
     put_report(report, out)
 }

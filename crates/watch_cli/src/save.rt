@@ -7,11 +7,11 @@ ghost use Rattle.flux_model.specs.Graph.{empty_graph};
 ghost use Rattle.flux_model.specs.GraphText.{graph_text};
 ghost use Rattle.flux_model.specs.Limits.{IsFair};
 ghost use Rattle.flux_model.specs.Verdict.{Save, Done};
-ghost use Rattle.watch_cli.specs.Ends.{RunEndsAs, RunEndsBefore, ReadFails};
-ghost use Rattle.watch_cli.specs.Halts.{WriteHalts, HaltWhere};
+ghost use Rattle.watch_cli.specs.RunEnds.{RunEndsAs, RunEndsBefore, ReadFails, StatusWhere};
+ghost use Rattle.watch_cli.specs.EarlyEnds.{IsEarly, WriteEnds};
 
-use crate::halt::{Halt, InputFile};
 use crate::report::put_report;
+use crate::status::{InputFile, Status};
 use file_reading::read_store;
 use flux_model::{Ledger, Limits, Steps};
 use flux_outside::{Shelf, Sink};
@@ -28,7 +28,7 @@ pub fn save_graph<F: Shelf, G: KeepGraph + ReadGraph<L>, W: Sink, L: Ledger>(
     shelf: &mut F,
     out: &mut W,
     steps: &mut Steps<L>,
-) -> Result<(), Halt>
+) -> Result<(), Status>
     requires fair { IsFair limits.now }
     requires limits { G.limits empty ≡ limits.now }
     requires empty { G.graph empty ≡ empty_graph }
@@ -36,15 +36,16 @@ pub fn save_graph<F: Shelf, G: KeepGraph + ReadGraph<L>, W: Sink, L: Ledger>(
         left (W.taken out.old) (W.taken out.new) Done) }
     ensures front { (left : Option (List ℕ)) → RunEndsBefore limits.now (F.files shelf.old) (Some (Save name.now))
         left (W.taken out.old) (W.taken out.new) }
-    ensures halt { (left : Option (List ℕ)) (read : ℕ) → IfErr result (HaltWhere
+    ensures status { (left : Option (List ℕ)) (read : ℕ) → IfErr result (StatusWhere
         (RunEndsAs limits.now (F.files shelf.old) (Some (Save name.now)) left (W.taken out.old) (W.taken out.new))
         (ReadFails limits.now (F.files shelf.old) (Some (Save name.now))
         (F.faults shelf.old) (F.faults shelf.new) read read left left (W.taken out.old) (W.taken out.new))
         (Rose (W.faults out.old) (W.faults out.new))) }
+    ensures early { IfErr result IsEarly }
 {
     let graph = match read_store(alloc, limits, shelf, name, empty) {
         Ok(graph) => graph,
-        Err(stop) => return Err(Halt::of(InputFile::Graph, stop)),
+        Err(stop) => return Err(Status::of(InputFile::Graph, stop)),
     };
     put_graph(alloc, &graph, out, steps)
 }
@@ -55,15 +56,15 @@ fn put_graph<G: ReadGraph<L>, W: Sink, L: Ledger>(
     graph: &G,
     out: &mut W,
     steps: &mut Steps<L>,
-) -> Result<(), Halt>
+) -> Result<(), Status>
     ensures ok { OnOk result (Appends (W.taken out.old) (W.taken out.new) (graph_text (G.graph graph.now))) }
     ensures err { OnErr result (AppendsFront (W.taken out.old) (W.taken out.new) (graph_text (G.graph graph.now))) }
     ensures later { W.faults out.old ≤ W.faults out.new }
-    ensures halt { IfErr result (WriteHalts (W.faults out.old) (W.faults out.new)) }
+    ensures status { IfErr result (WriteEnds (W.faults out.old) (W.faults out.new)) }
 {
     let mut text = Vec::new(alloc);
     let Ok(()) = write_graph(alloc, graph, &mut text, steps) else {
-        return Err(Halt::Memory);
+        return Err(Status::Memory);
     };
     put_report(&mut text, out)
 }

@@ -6,7 +6,7 @@ ghost use Rattle.flux_model.specs.Report.{outcome, graph_after, block_of, block}
 ghost use Rattle.flux_model.specs.Grown.{GrewByFront};
 ghost use Rattle.flux_model.specs.declared.said.Said.TheVariants.{Says};
 ghost use Rattle.watch_cli.specs.Session.{first_state, after_said, next_block, end_text};
-ghost use Rattle.watch_cli.specs.Answer.{answer_of};
+ghost use Rattle.watch_cli.specs.LineAnswers.{answer_of};
 
 use crate::embeddings::{all_embeddings, changes};
 use delta_report::{write_deltas, write_end, write_refusal};
@@ -75,8 +75,10 @@ impl Session {
     ) -> Result<(), AllocError>
         requires { self.old.lines < 2 ^ 60 }
         ensures after { OnOk result (self.new ≡ after_said self.old (update_reading (seen_line line.now))) }
-        ensures ok { OnOk result (report.new.items ≡ report.old.items ++ next_block self.old (update_reading (seen_line line.now))) }
-        ensures err { OnErr result (GrewByFront report.old.items report.new.items (next_block self.old (update_reading (seen_line line.now)))) }
+        ensures ok { let text = next_block self.old (update_reading (seen_line line.now)) in
+            OnOk result (report.new.items ≡ report.old.items ++ text) }
+        ensures err { let text = next_block self.old (update_reading (seen_line line.now)) in
+            OnErr result (GrewByFront report.old.items report.new.items text) }
     {
         let said = read_update_line(alloc, line)?;
         let number = self.lines + 1;
@@ -111,8 +113,10 @@ fn take_said(
     ensures answer { IfOk result (λ answer. answer ≡ answer_of (outcome graph.old.limits graph.old.graph said)) }
     ensures graph { OnOk result (graph.new.graph ≡ graph_after graph.old.graph (outcome graph.old.limits graph.old.graph said)) }
     ensures limits { graph.new.limits ≡ graph.old.limits }
-    ensures ok { OnOk result (report.new.items ≡ report.old.items ++ block graph.old.limits number patterns.now graph.old.graph said) }
-    ensures err { OnErr result (GrewByFront report.old.items report.new.items (block graph.old.limits number patterns.now graph.old.graph said)) }
+    ensures ok { let text = block graph.old.limits number patterns.now graph.old.graph said in
+        OnOk result (report.new.items ≡ report.old.items ++ text) }
+    ensures err { let text = block graph.old.limits number patterns.now graph.old.graph said in
+        OnErr result (GrewByFront report.old.items report.new.items text) }
 {
     match said {
         Said::Nothing => Ok(Answer::Ignored),
@@ -134,10 +138,13 @@ fn change(
     report: &mut Vec<u8>,
 ) -> Result<Answer, AllocError>
     ensures answer { IfOk result (λ answer. answer ≡ answer_of (outcome graph.old.limits graph.old.graph (Says update.now))) }
-    ensures graph { OnOk result (graph.new.graph ≡ graph_after graph.old.graph (outcome graph.old.limits graph.old.graph (Says update.now))) }
+    ensures graph { let came_to = outcome graph.old.limits graph.old.graph (Says update.now) in
+        OnOk result (graph.new.graph ≡ graph_after graph.old.graph came_to) }
     ensures limits { graph.new.limits ≡ graph.old.limits }
-    ensures ok { OnOk result (report.new.items ≡ report.old.items ++ block graph.old.limits number patterns.now graph.old.graph (Says update.now)) }
-    ensures err { OnErr result (GrewByFront report.old.items report.new.items (block graph.old.limits number patterns.now graph.old.graph (Says update.now))) }
+    ensures ok { let text = block graph.old.limits number patterns.now graph.old.graph (Says update.now) in
+        OnOk result (report.new.items ≡ report.old.items ++ text) }
+    ensures err { let text = block graph.old.limits number patterns.now graph.old.graph (Says update.now) in
+        OnErr result (GrewByFront report.old.items report.new.items text) }
 {
     let before = all_embeddings(alloc, patterns, graph)?;
     if let Err(code) = graph.apply(update)? {

@@ -1,10 +1,12 @@
-//! How a run ends.
+//! The statuses: the exit status of each, its line for standard error, and that of a file whose reading stopped.
 ghost use Rattle.std.specs.Prelude.{◌≡◌, ◌+◌, ◌≤◌, length};
 ghost use Rattle.std.specs.Fmt.{decimal};
 ghost use Rattle.watch_cli.specs.Status.{refusal_text, status_text, status_number};
+ghost use Rattle.watch_cli.specs.EarlyEnds.{status_of, IsEarly};
 
 use arrayvec::ArrayString;
-use flux_model::Code;
+use file_reading::Stop;
+use flux_model::{Bad, Code};
 
 /// How a run ends.
 #[derive(Clone, Copy, Debug, PartialEq, Eq)]
@@ -29,7 +31,31 @@ pub enum Status {
     TooMuch,
 }
 
+/// The files that the words name.
+#[derive(Clone, Copy)]
+pub enum InputFile {
+    Graph,
+    Patterns,
+}
+
 impl Status {
+    /// How a run ends where the reading of this file stopped.
+    pub(crate) fn of(file: InputFile, stop: Stop) -> Status
+        ensures status { result ≡ status_of file stop }
+        ensures early { IsEarly result }
+    {
+        match stop {
+            Stop::Memory => Status::Memory,
+            Stop::Read => Status::ReadFault,
+            Stop::NoFile => Status::NoFile,
+            Stop::TooMuch => Status::TooMuch,
+            Stop::Bad(Bad { line, code }) => match file {
+                InputFile::Graph => Status::BadGraph { line, code },
+                InputFile::Patterns => Status::BadPatterns { line, code },
+            },
+        }
+    }
+
     /// The exit status of the program.
     pub fn number(self) -> u8
         ensures { result ≡ status_number self }

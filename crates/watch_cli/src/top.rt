@@ -5,18 +5,18 @@ ghost use Rattle.flux_outside.specs.Causes.{Rose};
 ghost use Rattle.flux_outside.specs.Told.{AppendsFront};
 ghost use Rattle.flux_model.specs.Limits.{IsFair};
 ghost use Rattle.flux_model.specs.Verdict.{shape_of, verdict, due, Done};
-ghost use Rattle.watch_cli.specs.Words.{seen_shape, texts, ReadsUpdates};
+ghost use Rattle.watch_cli.specs.CommandWords.{seen_shape, texts, ReadsUpdates};
 ghost use Rattle.watch_cli.specs.Status.{status_text};
-ghost use Rattle.watch_cli.specs.Ends.{Held, verdict_of, inputs, written_of, OneRose, EndsAtFault, RunEndsAs, RunEndsBefore, ReadFails, StatusWhere};
-ghost use Rattle.watch_cli.specs.Halts.{HaltWhere};
+ghost use Rattle.watch_cli.specs.RunEnds.{KnownOrSome, verdict_of, inputs, written_of, OneRose, EndsAtFault};
+ghost use Rattle.watch_cli.specs.RunEnds.{RunEndsAs, RunEndsBefore, ReadFails, StatusWhere};
+ghost use Rattle.watch_cli.specs.EarlyEnds.{IsEarly};
 
 use crate::answers::list_answers;
-use crate::halt::Halt;
 use crate::save::save_graph;
 use crate::status::Status;
 use crate::watch::watch_updates;
 use crate::words::{Shape, parse_shape};
-use flux_model::{Bad, Ledger, Limits, Steps};
+use flux_model::{Ledger, Limits, Steps};
 use flux_outside::{Shelf, Sink, Source};
 use label_graph::LabelGraph;
 use std::alloc::Global;
@@ -44,19 +44,21 @@ fn work<F: Shelf, S: Source, W: Sink, L: Ledger>(
     updates: &mut S,
     out: &mut W,
     steps: &mut Steps<L>,
-) -> Result<(), Halt>
+) -> Result<(), Status>
     requires { IsFair limits.now }
     ensures end { OnOk result (ReadsUpdates (seen_shape shape.entry) → IsAtEnd (S.left updates.new)) }
     ensures unread { ¬ ReadsUpdates (seen_shape shape.entry) → updates.new ≡ updates.old }
     ensures ok { OnOk result (RunEndsAs limits.now (F.files shelf.old) (Some (seen_shape shape.entry))
         (S.left updates.old) (W.taken out.old) (W.taken out.new) Done) }
-    ensures front { RunEndsBefore limits.now (F.files shelf.old) (Some (seen_shape shape.entry)) (S.left updates.old) (W.taken out.old) (W.taken out.new) }
-    ensures halt { IfErr result (HaltWhere
+    ensures front { RunEndsBefore limits.now (F.files shelf.old) (Some (seen_shape shape.entry))
+        (S.left updates.old) (W.taken out.old) (W.taken out.new) }
+    ensures status { IfErr result (StatusWhere
         (RunEndsAs limits.now (F.files shelf.old) (Some (seen_shape shape.entry)) (S.left updates.old) (W.taken out.old) (W.taken out.new))
         (ReadFails limits.now (F.files shelf.old) (Some (seen_shape shape.entry))
         (F.faults shelf.old) (F.faults shelf.new) (S.faults updates.old) (S.faults updates.new)
         (S.left updates.old) (S.left updates.new) (W.taken out.old) (W.taken out.new))
         (Rose (W.faults out.old) (W.faults out.new))) }
+    ensures early { IfErr result IsEarly }
 {
     match shape {
         Shape::Watch { graph, patterns } => {
@@ -87,8 +89,10 @@ fn judge<F: Shelf, S: Source, W: Sink, L: Ledger>(
     ensures usage { (result ≡ Status.Usage) ↔ (shape_of (texts words.now) ≡ None) }
     ensures unasked { MatchOption (shape_of (texts words.now)) (Appends (W.taken out.old) (W.taken out.new) []) (λ _. ⊤) }
     ensures end { result ≡ Status.Done → IfSome (shape_of (texts words.now)) (λ shape. ReadsUpdates shape → IsAtEnd (S.left updates.new)) }
-    ensures unread { MatchOption (shape_of (texts words.now)) (updates.new ≡ updates.old) (λ shape. ¬ ReadsUpdates shape → updates.new ≡ updates.old) }
-    ensures front { RunEndsBefore limits.now (F.files shelf.old) (shape_of (texts words.now)) (S.left updates.old) (W.taken out.old) (W.taken out.new) }
+    ensures unread { MatchOption (shape_of (texts words.now)) (updates.new ≡ updates.old)
+        (λ shape. ¬ ReadsUpdates shape → updates.new ≡ updates.old) }
+    ensures front { RunEndsBefore limits.now (F.files shelf.old) (shape_of (texts words.now))
+        (S.left updates.old) (W.taken out.old) (W.taken out.new) }
     ensures status { StatusWhere
         (RunEndsAs limits.now (F.files shelf.old) (shape_of (texts words.now)) (S.left updates.old) (W.taken out.old) (W.taken out.new))
         (ReadFails limits.now (F.files shelf.old) (shape_of (texts words.now))
@@ -101,13 +105,7 @@ fn judge<F: Shelf, S: Source, W: Sink, L: Ledger>(
     };
     match work(alloc, limits, shape, shelf, updates, out, steps) {
         Ok(()) => Status::Done,
-        Err(Halt::Memory) => Status::Memory,
-        Err(Halt::Read) => Status::ReadFault,
-        Err(Halt::Write) => Status::WriteFault,
-        Err(Halt::NoFile) => Status::NoFile,
-        Err(Halt::TooMuch) => Status::TooMuch,
-        Err(Halt::BadGraph(Bad { line, code })) => Status::BadGraph { line, code },
-        Err(Halt::BadPatterns(Bad { line, code })) => Status::BadPatterns { line, code },
+        Err(status) => status,
     }
 }
 
@@ -130,7 +128,8 @@ fn tell<E: Sink>(status: Status, err: &mut E)
 ///
 /// `match GRAPH PATTERNS` reads the two files, and writes all embeddings and how many these are to `out`, in one piece.
 ///
-/// `save GRAPH` reads the graph file, and writes the one text of its graph to `out`, in one piece. `match` and `save` take nothing of the updates.
+/// `save GRAPH` reads the graph file, and writes the one text of its graph to `out`, in one piece. `match` and `save` take nothing of
+/// the updates.
 pub fn run<F: Shelf, S: Source, W: Sink, E: Sink, L: Ledger>(
     alloc: Global,
     words: &[String],
@@ -144,23 +143,27 @@ pub fn run<F: Shelf, S: Source, W: Sink, E: Sink, L: Ledger>(
     requires { IsFair limits.now }
     ensures usage { (result.status ≡ Status.Usage) ↔ (shape_of (texts words.now) ≡ None) }
     ensures unasked { MatchOption (shape_of (texts words.now)) (Appends (W.taken out.old) (W.taken out.new) []) (λ _. ⊤) }
-    ensures verdict { IfSome (verdict_of result.status) (λ v. IfSome (F.files shelf.old) (λ m. Held (S.left updates.old) (λ s.
-        (verdict limits.now m (texts words.now) s ≡ v) × Appends (W.taken out.old) (W.taken out.new) (due limits.now m (texts words.now) s)))) }
-    ensures complete { IfSome (F.files shelf.old) (λ m. Held (S.left updates.old) (λ s.
+    ensures verdict { IfSome (verdict_of result.status) (λ v. IfSome (F.files shelf.old) (λ m. KnownOrSome (S.left updates.old) (λ s.
+        (verdict limits.now m (texts words.now) s ≡ v)
+        × Appends (W.taken out.old) (W.taken out.new) (due limits.now m (texts words.now) s)))) }
+    ensures complete { IfSome (F.files shelf.old) (λ m. KnownOrSome (S.left updates.old) (λ s.
         ¬ OneRose (shape_of (texts words.now)) (F.faults shelf.old) (F.faults shelf.new) (S.faults updates.old) (S.faults updates.new)
         → ¬ Rose (W.faults out.old) (W.faults out.new)
         → (verdict_of result.status ≡ Some (verdict limits.now m (texts words.now) s)) ⊎ (result.status ≡ Status.Memory))) }
-    ensures front { IfSome (F.files shelf.old) (λ m. Held (S.left updates.old) (λ s.
+    ensures front { IfSome (F.files shelf.old) (λ m. KnownOrSome (S.left updates.old) (λ s.
         AppendsFront (W.taken out.old) (W.taken out.new) (due limits.now m (texts words.now) s))) }
     ensures read_fault { result.status ≡ Status.ReadFault
         → OneRose (shape_of (texts words.now)) (F.faults shelf.old) (F.faults shelf.new) (S.faults updates.old) (S.faults updates.new) }
     ensures read_accepted { result.status ≡ Status.ReadFault → ¬ Rose (F.faults shelf.old) (F.faults shelf.new)
         → IfSome (F.files shelf.old) (λ m. IsOk (inputs limits.now m (shape_of (texts words.now)))) }
-    ensures read_text { result.status ≡ Status.ReadFault → IfSome (F.files shelf.old) (λ m. EndsAtFault (S.left updates.old) (S.left updates.new)
+    ensures read_text { result.status ≡ Status.ReadFault → IfSome (F.files shelf.old) (λ m.
+        EndsAtFault (S.left updates.old) (S.left updates.new)
         (written_of limits.now (inputs limits.now m (shape_of (texts words.now)))) (W.taken out.old) (W.taken out.new)) }
     ensures write_fault { result.status ≡ Status.WriteFault → Rose (W.faults out.old) (W.faults out.new) }
-    ensures end { result.status ≡ Status.Done → IfSome (shape_of (texts words.now)) (λ shape. ReadsUpdates shape → IsAtEnd (S.left updates.new)) }
-    ensures unread { MatchOption (shape_of (texts words.now)) (updates.new ≡ updates.old) (λ shape. ¬ ReadsUpdates shape → updates.new ≡ updates.old) }
+    ensures end { result.status ≡ Status.Done
+        → IfSome (shape_of (texts words.now)) (λ shape. ReadsUpdates shape → IsAtEnd (S.left updates.new)) }
+    ensures unread { MatchOption (shape_of (texts words.now)) (updates.new ≡ updates.old)
+        (λ shape. ¬ ReadsUpdates shape → updates.new ≡ updates.old) }
     ensures told { Appends (E.taken err.old) (E.taken err.new) (status_text result.status)
         ⊎ (Rose (E.faults err.old) (E.faults err.new) × AppendsFront (E.taken err.old) (E.taken err.new) (status_text result.status)) }
 {

@@ -4,13 +4,13 @@ ghost use Rattle.std.specs.Io.KnownBytes.{IsAtEnd};
 ghost use Rattle.flux_outside.specs.Causes.{Rose};
 ghost use Rattle.flux_model.specs.Limits.{IsFair};
 ghost use Rattle.flux_model.specs.Verdict.{Watched, Done, ending_with, written_before};
-ghost use Rattle.watch_cli.specs.Ends.{EndsAs, EndsBefore, EndsAtFault};
-ghost use Rattle.watch_cli.specs.Halts.{HaltWhere};
+ghost use Rattle.watch_cli.specs.RunEnds.{EndsAs, EndsBefore, EndsAtFault, StatusWhere};
+ghost use Rattle.watch_cli.specs.EarlyEnds.{IsEarly};
 ghost use Rattle.watch_cli.specs.Session.{first_state};
 
-use crate::halt::Halt;
 use crate::report::{report_end, report_waiting};
 use crate::session::Session;
+use crate::status::Status;
 use file_reading::{ask_for, make_buffer};
 use flux_model::Limits;
 use flux_outside::{Sink, Source};
@@ -24,7 +24,7 @@ pub fn follow<S: Source, W: Sink>(
     session: &mut Session,
     updates: &mut S,
     out: &mut W,
-) -> Result<(), Halt>
+) -> Result<(), Status>
     requires fair { IsFair limits.now }
     requires first { session.old ≡ first_state limits.now session.old.graph session.old.patterns }
     ensures end { OnOk result (IsAtEnd (S.left updates.new)) }
@@ -32,33 +32,35 @@ pub fn follow<S: Source, W: Sink>(
         (λ s. ending_with limits.now s (Watched session.old.graph session.old.patterns)) (W.taken out.old) (W.taken out.new) Done) }
     ensures front { OnErr result (EndsBefore (S.left updates.old)
         (λ s. ending_with limits.now s (Watched session.old.graph session.old.patterns)) (W.taken out.old) (W.taken out.new)) }
-    ensures halt { IfErr result (HaltWhere
-        (EndsAs (S.left updates.old) (λ s. ending_with limits.now s (Watched session.old.graph session.old.patterns)) (W.taken out.old) (W.taken out.new))
+    ensures status { IfErr result (StatusWhere
+        (EndsAs (S.left updates.old)
+        (λ s. ending_with limits.now s (Watched session.old.graph session.old.patterns)) (W.taken out.old) (W.taken out.new))
         (Rose (S.faults updates.old) (S.faults updates.new) × EndsAtFault (S.left updates.old) (S.left updates.new)
         (written_before limits.now (Watched session.old.graph session.old.patterns)) (W.taken out.old) (W.taken out.new))
         (Rose (W.faults out.old) (W.faults out.new))) }
+    ensures early { IfErr result IsEarly }
 {
     let mut lines = Lines::new(alloc, limits.line_bytes);
     let mut report = Vec::new(alloc);
     let Ok(mut buffer) = make_buffer(alloc) else {
-        return Err(Halt::Memory);
+        return Err(Status::Memory);
     };
     let mut given = 0;
     loop {
         let room = limits.input_bytes - given;
         let window = &mut buffer[..ask_for(room)];
         let Ok(count) = updates.read(window) else {
-            return Err(Halt::Read);
+            return Err(Status::ReadFault);
         };
         if count == 0 {
             break;
         }
         if count as u64 > room {
-            return Err(Halt::TooMuch);
+            return Err(Status::TooMuch);
         }
         given += count as u64;
         let Ok(()) = lines.push(&window[..count]) else {
-            return Err(Halt::Memory);
+            return Err(Status::Memory);
         };
         report_waiting(alloc, session, &mut lines, &mut report, out)?;
     }

@@ -4,11 +4,11 @@ ghost use Rattle.std.specs.Io.KnownBytes.{IsAtEnd};
 ghost use Rattle.flux_outside.specs.Causes.{Rose};
 ghost use Rattle.flux_model.specs.Limits.{IsFair};
 ghost use Rattle.flux_model.specs.Verdict.{Watch, Done};
-ghost use Rattle.watch_cli.specs.Ends.{RunEndsAs, RunEndsBefore, ReadFails};
-ghost use Rattle.watch_cli.specs.Halts.{HaltWhere};
+ghost use Rattle.watch_cli.specs.RunEnds.{RunEndsAs, RunEndsBefore, ReadFails, StatusWhere};
+ghost use Rattle.watch_cli.specs.EarlyEnds.{IsEarly};
 
-use crate::halt::{Halt, InputFile};
 use crate::session::Session;
+use crate::status::{InputFile, Status};
 use crate::updates::follow;
 use file_reading::{read_graph, read_patterns};
 use flux_model::Limits;
@@ -24,28 +24,29 @@ pub fn watch_updates<F: Shelf, S: Source, W: Sink>(
     shelf: &mut F,
     updates: &mut S,
     out: &mut W,
-) -> Result<(), Halt>
+) -> Result<(), Status>
     requires { IsFair limits.now }
     ensures end { OnOk result (IsAtEnd (S.left updates.new)) }
     ensures ok { OnOk result (RunEndsAs limits.now (F.files shelf.old) (Some (Watch graph_name.now patterns_name.now))
         (S.left updates.old) (W.taken out.old) (W.taken out.new) Done) }
     ensures front { RunEndsBefore limits.now (F.files shelf.old) (Some (Watch graph_name.now patterns_name.now))
         (S.left updates.old) (W.taken out.old) (W.taken out.new) }
-    ensures halt { IfErr result (HaltWhere
+    ensures status { IfErr result (StatusWhere
         (RunEndsAs limits.now (F.files shelf.old) (Some (Watch graph_name.now patterns_name.now))
         (S.left updates.old) (W.taken out.old) (W.taken out.new))
         (ReadFails limits.now (F.files shelf.old) (Some (Watch graph_name.now patterns_name.now))
         (F.faults shelf.old) (F.faults shelf.new) (S.faults updates.old) (S.faults updates.new)
         (S.left updates.old) (S.left updates.new) (W.taken out.old) (W.taken out.new))
         (Rose (W.faults out.old) (W.faults out.new))) }
+    ensures early { IfErr result IsEarly }
 {
     let graph = match read_graph(alloc, limits, shelf, graph_name) {
         Ok(graph) => graph,
-        Err(stop) => return Err(Halt::of(InputFile::Graph, stop)),
+        Err(stop) => return Err(Status::of(InputFile::Graph, stop)),
     };
     let patterns = match read_patterns(alloc, limits, shelf, patterns_name) {
         Ok(patterns) => patterns,
-        Err(stop) => return Err(Halt::of(InputFile::Patterns, stop)),
+        Err(stop) => return Err(Status::of(InputFile::Patterns, stop)),
     };
     let mut session = Session::new(graph, patterns);
     follow(alloc, limits, &mut session, updates, out)

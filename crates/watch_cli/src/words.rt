@@ -1,7 +1,7 @@
 //! The words of the command line.
 ghost use Rattle.std.specs.Prelude.{◌≡◌, MatchOption, None, Some};
 ghost use Rattle.flux_model.specs.Verdict.{shape_of};
-ghost use Rattle.watch_cli.specs.Words.{seen_shape, texts};
+ghost use Rattle.watch_cli.specs.CommandWords.{seen_shape, texts};
 
 /// What the words ask for, with the names of the files.
 #[derive(Clone, Copy)]

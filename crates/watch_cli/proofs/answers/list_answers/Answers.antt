@@ -4,20 +4,21 @@ use Rattle.flux_outside.specs.Causes.{Rose}
 use Rattle.flux_model.specs.Report.{match_text}
 use Rattle.flux_model.specs.Verdict.{Shape, Match, Matched, Done, graph_file, pattern_file, ending_with}
 use Rattle.file_reading.specs.FileContents.{FileIs}
-use Rattle.watch_cli.specs.Ends.{ReadFails}
-use Rattle.watch_cli.specs.declared.halt.InputFile.TheVariants.{Graph, Patterns}
+use Rattle.watch_cli.specs.RunEnds.{ReadFails}
+use Rattle.watch_cli.specs.declared.status.InputFile.TheVariants.{Graph, Patterns}
 use Rattle.watch_cli.proofs.ReportLemmas.{put_either}
-use Rattle.watch_cli.proofs.TopLemmas.{Judged, both-judged, graph-judged, patterns-judged, run-before, run-ends, run-ends_before, text-put, text-front, file-halts, put-halts}
+use Rattle.watch_cli.proofs.TopLemmas.{Judged, both-judged, graph-judged, patterns-judged, run-before, run-ends, run-ends_before, text-put, text-front, file-ends, put-ends}
+use Rattle.watch_cli.proofs.FollowLemmas.{write-early}
 use Rattle.watch_cli.proofs.answers.list_answers.Goals as goal
 
 pub returns-in-Err-clause-front : goal.returns-in-Err-clause-front
 returns-in-Err-clause-front g c =
     λ left. run-before c.args.limits.now (g.F.Shelf.files c.args.shelf.now) (Some (Match c.args.graph_name.now c.args.patterns_name.now)) left (g.W.Sink.taken c.args.out.now)
 
-pub returns-in-Err-clause-halt : goal.returns-in-Err-clause-halt
-returns-in-Err-clause-halt g c =
+pub returns-in-Err-clause-status : goal.returns-in-Err-clause-status
+returns-in-Err-clause-status g c =
     let shape : Shape = Match c.args.graph_name.now c.args.patterns_name.now in
-    rw c.of.ensures (λ left read. file-halts c.args.limits.now (g.F.Shelf.files c.args.shelf.now) shape
+    rw c.of.ensures.status (λ left read. file-ends c.args.limits.now (g.F.Shelf.files c.args.shelf.now) shape
     (g.F.Shelf.faults c.args.shelf.now) (g.F.Shelf.faults c.args.shelf.now) (g.F.Shelf.faults c.read_store.new.shelf)
     read read left (g.W.Sink.taken c.args.out.now)
     (λ v. FileIs (g.F.Shelf.files c.args.shelf.now) c.args.graph_name.now (graph_file c.args.limits.now) (Err v))
@@ -29,10 +30,10 @@ pub returns-in-Err-read_patterns-clause-front : goal.returns-in-Err-read_pattern
 returns-in-Err-read_patterns-clause-front g c =
     λ left. run-before c.args.limits.now (g.F.Shelf.files c.args.shelf.now) (Some (Match c.args.graph_name.now c.args.patterns_name.now)) left (g.W.Sink.taken c.args.out.now)
 
-pub returns-in-Err-read_patterns-clause-halt : goal.returns-in-Err-read_patterns-clause-halt
-returns-in-Err-read_patterns-clause-halt g c =
+pub returns-in-Err-read_patterns-clause-status : goal.returns-in-Err-read_patterns-clause-status
+returns-in-Err-read_patterns-clause-status g c =
     let shape : Shape = Match c.args.graph_name.now c.args.patterns_name.now in
-    rw c.of-in-Err-read_patterns.ensures (λ left read. file-halts c.args.limits.now (g.F.Shelf.files c.args.shelf.now) shape
+    rw c.of-in-Err-read_patterns.ensures.status (λ left read. file-ends c.args.limits.now (g.F.Shelf.files c.args.shelf.now) shape
     (g.F.Shelf.faults c.args.shelf.now) (g.F.Shelf.faults c.read_store.new.shelf) (g.F.Shelf.faults c.read_patterns.new.shelf)
     read read left (g.W.Sink.taken c.args.out.now)
     (λ v. FileIs (g.F.Shelf.files c.read_store.new.shelf) c.args.patterns_name.now (pattern_file c.args.limits.now) (Err v))
@@ -64,11 +65,14 @@ returns-clause-front g c =
     (text-front left (λ s. ending_with c.args.limits.now s (Matched graph c.in-Ok-read_patterns.patterns)) (match_text graph c.in-Ok-read_patterns.patterns) (g.W.Sink.taken c.args.out.now) (g.W.Sink.taken c.put_answers.new.out) (λ s. refl)
     (put_either c.put_answers.result (g.W.Sink.taken c.args.out.now) (g.W.Sink.taken c.put_answers.new.out) (match_text graph c.in-Ok-read_patterns.patterns) c.put_answers.ensures.ok c.put_answers.ensures.err))
 
-pub returns-clause-halt : goal.returns-clause-halt
-returns-clause-halt g c =
+pub returns-clause-status : goal.returns-clause-status
+returns-clause-status g c =
     let shape : Shape = Match c.args.graph_name.now c.args.patterns_name.now in
     λ left read. IfErr-weaker c.put_answers.result _ _
-    (λ h so. put-halts c.args.limits.now (g.F.Shelf.files c.args.shelf.now) shape
+    (λ h so. put-ends c.args.limits.now (g.F.Shelf.files c.args.shelf.now) shape
     (ReadFails c.args.limits.now (g.F.Shelf.files c.args.shelf.now) (Some shape) (g.F.Shelf.faults c.args.shelf.now) (g.F.Shelf.faults c.read_patterns.new.shelf) read read left left (g.W.Sink.taken c.args.out.now) (g.W.Sink.taken c.put_answers.new.out))
     (g.W.Sink.faults c.args.out.now) (g.W.Sink.faults c.put_answers.new.out) left (g.W.Sink.taken c.args.out.now) (g.W.Sink.taken c.put_answers.new.out) h so)
-    c.put_answers.ensures.halt
+    c.put_answers.ensures.status
+
+pub returns-clause-early : goal.returns-clause-early
+returns-clause-early g c = IfErr-weaker c.put_answers.result _ _ (λ s so. write-early (g.W.Sink.faults c.args.out.now) (g.W.Sink.faults c.put_answers.new.out) s so) c.put_answers.ensures.status

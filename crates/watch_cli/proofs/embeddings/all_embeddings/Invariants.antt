@@ -1,5 +1,5 @@
 use Rattle.std.proofs.Common.{◌≡◌, take}
-use Rattle.watch_cli.specs.Deltas.{embeddings_of}
+use Rattle.watch_cli.specs.PatternDeltas.{embeddings_of}
 use Rattle.watch_cli.proofs.embeddings.all_embeddings.Given as goal
 
 -- those of the patterns so far

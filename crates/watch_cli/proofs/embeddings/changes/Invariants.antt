@@ -1,7 +1,7 @@
 use Rattle.std.proofs.Common.{◌≡◌, drop, ◌++◌, ◌<◌}
 use Rattle.std.specs.List.{AllByRecursion}
 use Rattle.flux_model.specs.declared.maps.Delta.{Delta}
-use Rattle.watch_cli.specs.Deltas.{deltas_from}
+use Rattle.watch_cli.specs.PatternDeltas.{deltas_from}
 use Rattle.watch_cli.proofs.embeddings.changes.Given as goal
 
 -- those of the patterns so far, and then those of the others, are all

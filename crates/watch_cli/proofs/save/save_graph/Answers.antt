@@ -4,19 +4,20 @@ use Rattle.flux_model.specs.GraphText.{graph_text}
 use Rattle.flux_outside.specs.Causes.{Rose}
 use Rattle.flux_model.specs.Verdict.{Save, Saved, Done, graph_file, ending_with}
 use Rattle.file_reading.specs.FileContents.{FileIs}
-use Rattle.watch_cli.specs.Ends.{ReadFails}
-use Rattle.watch_cli.specs.declared.halt.InputFile.TheVariants.{Graph}
+use Rattle.watch_cli.specs.RunEnds.{ReadFails}
+use Rattle.watch_cli.specs.declared.status.InputFile.TheVariants.{Graph}
 use Rattle.watch_cli.proofs.ReportLemmas.{put_either}
-use Rattle.watch_cli.proofs.TopLemmas.{save-judged, save-refused, run-before, file-halts, run-ends, run-ends_before, text-put, text-front, put-halts}
+use Rattle.watch_cli.proofs.TopLemmas.{save-judged, save-refused, run-before, file-ends, run-ends, run-ends_before, text-put, text-front, put-ends}
+use Rattle.watch_cli.proofs.FollowLemmas.{write-early}
 use Rattle.watch_cli.proofs.save.save_graph.Goals as goal
 
 pub returns-in-Err-clause-front : goal.returns-in-Err-clause-front
 returns-in-Err-clause-front g c =
     λ left. run-before c.args.limits.now (g.F.Shelf.files c.args.shelf.now) (Some (Save c.args.name.now)) left (g.W.Sink.taken c.args.out.now)
 
-pub returns-in-Err-clause-halt : goal.returns-in-Err-clause-halt
-returns-in-Err-clause-halt g c =
-    rw c.of.ensures (λ left read. file-halts c.args.limits.now (g.F.Shelf.files c.args.shelf.now) (Save c.args.name.now)
+pub returns-in-Err-clause-status : goal.returns-in-Err-clause-status
+returns-in-Err-clause-status g c =
+    rw c.of.ensures.status (λ left read. file-ends c.args.limits.now (g.F.Shelf.files c.args.shelf.now) (Save c.args.name.now)
     (g.F.Shelf.faults c.args.shelf.now) (g.F.Shelf.faults c.args.shelf.now) (g.F.Shelf.faults c.read_store.new.shelf)
     read read left (g.W.Sink.taken c.args.out.now)
     (λ v. FileIs (g.F.Shelf.files c.args.shelf.now) c.args.name.now (graph_file c.args.limits.now) (Err v))
@@ -41,10 +42,13 @@ returns-clause-front g c =
     (text-front left (λ s. ending_with c.args.limits.now s (Saved graph)) (graph_text graph) (g.W.Sink.taken c.args.out.now) (g.W.Sink.taken c.put_graph.new.out) (λ s. refl)
     (put_either c.put_graph.result (g.W.Sink.taken c.args.out.now) (g.W.Sink.taken c.put_graph.new.out) (graph_text graph) c.put_graph.ensures.ok c.put_graph.ensures.err))
 
-pub returns-clause-halt : goal.returns-clause-halt
-returns-clause-halt g c =
+pub returns-clause-status : goal.returns-clause-status
+returns-clause-status g c =
     λ left read. IfErr-weaker c.put_graph.result _ _
-    (λ h so. put-halts c.args.limits.now (g.F.Shelf.files c.args.shelf.now) (Save c.args.name.now)
+    (λ h so. put-ends c.args.limits.now (g.F.Shelf.files c.args.shelf.now) (Save c.args.name.now)
     (ReadFails c.args.limits.now (g.F.Shelf.files c.args.shelf.now) (Some (Save c.args.name.now)) (g.F.Shelf.faults c.args.shelf.now) (g.F.Shelf.faults c.read_store.new.shelf) read read left left (g.W.Sink.taken c.args.out.now) (g.W.Sink.taken c.put_graph.new.out))
     (g.W.Sink.faults c.args.out.now) (g.W.Sink.faults c.put_graph.new.out) left (g.W.Sink.taken c.args.out.now) (g.W.Sink.taken c.put_graph.new.out) h so)
-    c.put_graph.ensures.halt
+    c.put_graph.ensures.status
+
+pub returns-clause-early : goal.returns-clause-early
+returns-clause-early g c = IfErr-weaker c.put_graph.result _ _ (λ s so. write-early (g.W.Sink.faults c.args.out.now) (g.W.Sink.faults c.put_graph.new.out) s so) c.put_graph.ensures.status

@@ -2,7 +2,7 @@ use Rattle.std.proofs.Common.{◌≡◌, ◌∙◌, ap, ◌++◌, Ok}
 use Rattle.std.proofs.lemmas.Result.{err_from_is_err_and}
 use Rattle.flux_model.specs.Graph.{apply}
 use Rattle.flux_model.specs.Deltas.{change_deltas}
-use Rattle.watch_cli.specs.Deltas.{deltas_from}
+use Rattle.watch_cli.specs.PatternDeltas.{deltas_from}
 use Rattle.watch_cli.proofs.EmbeddingsLemmas.{deltas_of_change}
 use Rattle.watch_cli.proofs.SessionLemmas.{have_patterns, are_sorted, block_is, block_front}
 use Rattle.watch_cli.proofs.session.change.Goals as goal

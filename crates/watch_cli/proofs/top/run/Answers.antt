@@ -1,7 +1,7 @@
 use Rattle.flux_outside.specs.Causes.{Rose}
 use Rattle.flux_model.specs.Verdict.{shape_of}
-use Rattle.watch_cli.specs.Words.{texts}
-use Rattle.watch_cli.specs.Ends.{OneRose, ReadFails}
+use Rattle.watch_cli.specs.CommandWords.{texts}
+use Rattle.watch_cli.specs.RunEnds.{OneRose, ReadFails}
 use Rattle.watch_cli.proofs.TopLemmas.{status-complete}
 use Rattle.watch_cli.proofs.top.run.Goals as goal
 

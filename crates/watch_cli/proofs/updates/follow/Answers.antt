@@ -4,10 +4,10 @@ use Rattle.std.proofs.lemmas.Grind.{common_steps}
 use Rattle.stream_lines.specs.Lent.{one_line}
 use Rattle.flux_outside.specs.Causes.{Rose}
 use Rattle.flux_model.specs.Verdict.{Watched, ending_with, written_before}
-use Rattle.watch_cli.specs.Ends.{EndsAs, EndsAtFault}
+use Rattle.watch_cli.specs.RunEnds.{EndsAs, EndsAtFault}
 use Rattle.watch_cli.specs.Session.{WatchState}
 use Rattle.watch_cli.proofs.ReportLemmas.{Followed-start, Followed-next, lines_fit, some_lines_fit}
-use Rattle.watch_cli.proofs.FollowLemmas.{Consumes-none, Followed-before, Followed-fault, Followed-long, Followed-stops, Followed-done, Followed-done_short, write-halts}
+use Rattle.watch_cli.proofs.FollowLemmas.{Consumes-none, Followed-before, Followed-fault, Followed-long, Followed-stops, Followed-done, Followed-done_short, write-ends, write-early}
 use Rattle.watch_cli.proofs.updates.follow.Goals as goal
 
 pub loop-count-init : goal.loop-count-init
@@ -24,8 +24,8 @@ pub returns-in_default-read-clause-front : goal.returns-in_default-read-clause-f
 returns-in_default-read-clause-front g c =
     Followed-before c.args.limits.now c.args.session.now.graph c.args.session.now.patterns _ _ _ _ _ _ _ _ c.requires.first c.loop-count.invariant.followed c.loop-count.invariant.within
 
-pub returns-in_default-read-clause-halt : goal.returns-in_default-read-clause-halt
-returns-in_default-read-clause-halt g c = (
+pub returns-in_default-read-clause-status : goal.returns-in_default-read-clause-status
+returns-in_default-read-clause-status g c = (
   omega (arith, c.loop-count.invariant.read_later, c.in_default-read.ensures.cause.failed),
   Followed-fault c.args.limits.now c.args.session.now.graph c.args.session.now.patterns _ _ _ _ _ _ _ _ c.requires.first _ c.loop-count.invariant.followed c.in_default-read.ensures.bytes,
 )
@@ -34,8 +34,8 @@ pub returns-then-count-room-clause-front : goal.returns-then-count-room-clause-f
 returns-then-count-room-clause-front g c =
     Followed-before c.args.limits.now c.args.session.now.graph c.args.session.now.patterns _ _ _ _ _ _ _ _ c.requires.first c.loop-count.invariant.followed c.loop-count.invariant.within
 
-pub returns-then-count-room-clause-halt : goal.returns-then-count-room-clause-halt
-returns-then-count-room-clause-halt g c =
+pub returns-then-count-room-clause-status : goal.returns-then-count-room-clause-status
+returns-then-count-room-clause-status g c =
     let bound : c.in-Ok-read.count ≤ length c.read.new.buf = c.in-Ok-read.ensures.bound.0 in
     let asked : length c.read.new.buf ≡ c.ask_for.result = grind (arith, common_steps) in
     Followed-long c.args.limits.now c.args.session.now.graph c.args.session.now.patterns _ _ _ _ _ _ _ _ c.requires.first _ c.in-Ok-read.count _ c.loop-count.invariant.followed
@@ -68,14 +68,19 @@ returns-in_err-report_waiting-clause-front g c =
     rw p.1 (Followed-stops c.args.limits.now c.args.session.now.graph c.args.session.now.patterns _ _ _ _ _ _ _ _ c.requires.first _ _ c.in-Ok-read.count _ _ c.loop-count.invariant.followed
     c.in-Ok-read.ensures.bytes.0 c.in-Ok-read.ensures.bound.1 (omega (arith, c.if-count-room.false, c.loop-count.invariant.within)) c.in-Ok-push.ensures.lines c.in_err-report_waiting.ensures.err)
 
-pub returns-in_err-report_waiting-clause-halt : goal.returns-in_err-report_waiting-clause-halt
-returns-in_err-report_waiting-clause-halt g c =
+pub returns-in_err-report_waiting-clause-status : goal.returns-in_err-report_waiting-clause-status
+returns-in_err-report_waiting-clause-status g c =
     let p = err_from_is_err_and c.from_residual.result c.from_residual.ensures.1 in
-    rw (p.1, p.2) (write-halts _ _ _
+    rw (p.1, p.2) (write-ends _ _ _
     (EndsAs (g.S.Source.left c.args.updates.now) (λ s. ending_with c.args.limits.now s (Watched c.args.session.now.graph c.args.session.now.patterns)) (g.W.Sink.taken c.args.out.now) (g.W.Sink.taken c.report_waiting.new.out))
     (Rose (g.S.Source.faults c.args.updates.now) (g.S.Source.faults c.read.new.self)
     × EndsAtFault (g.S.Source.left c.args.updates.now) (g.S.Source.left c.read.new.self) (written_before c.args.limits.now (Watched c.args.session.now.graph c.args.session.now.patterns)) (g.W.Sink.taken c.args.out.now) (g.W.Sink.taken c.report_waiting.new.out))
-    _ c.loop-count.invariant.later c.in_err-report_waiting.ensures.halt)
+    _ c.loop-count.invariant.later c.in_err-report_waiting.ensures.status)
+
+pub returns-in_err-report_waiting-clause-early : goal.returns-in_err-report_waiting-clause-early
+returns-in_err-report_waiting-clause-early g c =
+    let p = err_from_is_err_and c.from_residual.result c.from_residual.ensures.1 in
+    rw (p.1, p.2) (write-early _ _ _ c.in_err-report_waiting.ensures.status)
 
 pub report_end-requires-clause-fits : goal.report_end-requires-clause-fits
 report_end-requires-clause-fits g c =
@@ -98,12 +103,15 @@ returns-clause-front g c =
     (Consumes-none _ _ _ _ zero c.in-Ok-read.ensures.bytes.0) (c.in-Ok-read.ensures.bytes.1 zero (grind (arith, common_steps))) c.loop-count.invariant.within c.last.ensures.lines front)
     c.report_end.ensures.err
 
-pub returns-clause-halt : goal.returns-clause-halt
-returns-clause-halt g c =
+pub returns-clause-status : goal.returns-clause-status
+returns-clause-status g c =
     IfErr-weaker c.report_end.result _ _
-    (λ s stopped. write-halts _ _ _
+    (λ s stopped. write-ends _ _ _
     (EndsAs (g.S.Source.left c.args.updates.now) (λ s. ending_with c.args.limits.now s (Watched c.args.session.now.graph c.args.session.now.patterns)) (g.W.Sink.taken c.args.out.now) (g.W.Sink.taken c.report_end.new.out))
     (Rose (g.S.Source.faults c.args.updates.now) (g.S.Source.faults c.read.new.self)
     × EndsAtFault (g.S.Source.left c.args.updates.now) (g.S.Source.left c.read.new.self) (written_before c.args.limits.now (Watched c.args.session.now.graph c.args.session.now.patterns)) (g.W.Sink.taken c.args.out.now) (g.W.Sink.taken c.report_end.new.out))
     s c.loop-count.invariant.later stopped)
-    c.report_end.ensures.halt
+    c.report_end.ensures.status
+
+pub returns-clause-early : goal.returns-clause-early
+returns-clause-early g c = IfErr-weaker c.report_end.result _ _ (λ s so. write-early _ _ s so) c.report_end.ensures.status

@@ -4,18 +4,18 @@ use Rattle.flux_outside.specs.Causes.{Rose}
 use Rattle.flux_model.specs.Verdict.{Shape, Watch, Watched, Done, graph_file, pattern_file}
 use Rattle.file_reading.specs.FileContents.{FileIs}
 use Rattle.watch_cli.specs.Session.{WatchState}
-use Rattle.watch_cli.specs.declared.halt.InputFile.TheVariants.{Graph, Patterns}
-use Rattle.watch_cli.proofs.TopLemmas.{Judged, both-judged, graph-judged, patterns-judged, run-before, run-ends, run-either, file-halts, follow-halts}
+use Rattle.watch_cli.specs.declared.status.InputFile.TheVariants.{Graph, Patterns}
+use Rattle.watch_cli.proofs.TopLemmas.{Judged, both-judged, graph-judged, patterns-judged, run-before, run-ends, run-either, file-ends, follow-ends}
 use Rattle.watch_cli.proofs.watch.watch_updates.Goals as goal
 
 pub returns-in-Err-clause-front : goal.returns-in-Err-clause-front
 returns-in-Err-clause-front g c =
     run-before c.args.limits.now (g.F.Shelf.files c.args.shelf.now) (Some (Watch c.args.graph_name.now c.args.patterns_name.now)) (g.S.Source.left c.args.updates.now) (g.W.Sink.taken c.args.out.now)
 
-pub returns-in-Err-clause-halt : goal.returns-in-Err-clause-halt
-returns-in-Err-clause-halt g c =
+pub returns-in-Err-clause-status : goal.returns-in-Err-clause-status
+returns-in-Err-clause-status g c =
     let shape : Shape = Watch c.args.graph_name.now c.args.patterns_name.now in
-    rw c.of.ensures (file-halts c.args.limits.now (g.F.Shelf.files c.args.shelf.now) shape
+    rw c.of.ensures.status (file-ends c.args.limits.now (g.F.Shelf.files c.args.shelf.now) shape
     (g.F.Shelf.faults c.args.shelf.now) (g.F.Shelf.faults c.args.shelf.now) (g.F.Shelf.faults c.read_graph.new.shelf)
     (g.S.Source.faults c.args.updates.now) (g.S.Source.faults c.args.updates.now) (g.S.Source.left c.args.updates.now) (g.W.Sink.taken c.args.out.now)
     (λ v. FileIs (g.F.Shelf.files c.args.shelf.now) c.args.graph_name.now (graph_file c.args.limits.now) (Err v))
@@ -27,10 +27,10 @@ pub returns-in-Err-read_patterns-clause-front : goal.returns-in-Err-read_pattern
 returns-in-Err-read_patterns-clause-front g c =
     run-before c.args.limits.now (g.F.Shelf.files c.args.shelf.now) (Some (Watch c.args.graph_name.now c.args.patterns_name.now)) (g.S.Source.left c.args.updates.now) (g.W.Sink.taken c.args.out.now)
 
-pub returns-in-Err-read_patterns-clause-halt : goal.returns-in-Err-read_patterns-clause-halt
-returns-in-Err-read_patterns-clause-halt g c =
+pub returns-in-Err-read_patterns-clause-status : goal.returns-in-Err-read_patterns-clause-status
+returns-in-Err-read_patterns-clause-status g c =
     let shape : Shape = Watch c.args.graph_name.now c.args.patterns_name.now in
-    rw c.of-in-Err-read_patterns.ensures (file-halts c.args.limits.now (g.F.Shelf.files c.args.shelf.now) shape
+    rw c.of-in-Err-read_patterns.ensures.status (file-ends c.args.limits.now (g.F.Shelf.files c.args.shelf.now) shape
     (g.F.Shelf.faults c.args.shelf.now) (g.F.Shelf.faults c.read_graph.new.shelf) (g.F.Shelf.faults c.read_patterns.new.shelf)
     (g.S.Source.faults c.args.updates.now) (g.S.Source.faults c.args.updates.now) (g.S.Source.left c.args.updates.now) (g.W.Sink.taken c.args.out.now)
     (λ v. FileIs (g.F.Shelf.files c.read_graph.new.shelf) c.args.patterns_name.now (pattern_file c.args.limits.now) (Err v))
@@ -61,16 +61,16 @@ returns-clause-front g c =
     run-either c.follow.result c.args.limits.now (g.F.Shelf.files c.args.shelf.now) shape (g.S.Source.left c.args.updates.now) (g.W.Sink.taken c.args.out.now) (g.W.Sink.taken c.follow.new.out)
     (Watched c.new-session.result.graph c.new-session.result.patterns) judged c.follow.ensures.ok c.follow.ensures.front
 
-pub returns-clause-halt : goal.returns-clause-halt
-returns-clause-halt g c =
+pub returns-clause-status : goal.returns-clause-status
+returns-clause-status g c =
     let shape : Shape = Watch c.args.graph_name.now c.args.patterns_name.now in
     let judged : Judged c.args.limits.now (g.F.Shelf.files c.args.shelf.now) (Some shape) (Ok (Watched c.new-session.result.graph c.new-session.result.patterns)) =
     subst (λ (w : WatchState). Judged c.args.limits.now (g.F.Shelf.files c.args.shelf.now) (Some shape) (Ok (Watched w.graph w.patterns))) (sym c.new-session.ensures)
     (both-judged Watched shape c.args.graph_name.now c.args.patterns_name.now c.args.limits.now (g.F.Shelf.files c.args.shelf.now) (g.F.Shelf.files c.read_graph.new.shelf) c.in-Ok.graph.graph c.in-Ok-read_patterns.patterns
     (λ m. refl) c.in-Ok.ensures.same c.in-Ok.ensures.ok c.in-Ok-read_patterns.ensures.ok) in
     IfErr-weaker c.follow.result _ _
-    (λ h so. follow-halts c.args.limits.now (g.F.Shelf.files c.args.shelf.now) shape (g.F.Shelf.faults c.args.shelf.now) (g.F.Shelf.faults c.read_patterns.new.shelf)
+    (λ h so. follow-ends c.args.limits.now (g.F.Shelf.files c.args.shelf.now) shape (g.F.Shelf.faults c.args.shelf.now) (g.F.Shelf.faults c.read_patterns.new.shelf)
     (g.S.Source.faults c.args.updates.now) (g.S.Source.faults c.follow.new.updates) (g.W.Sink.faults c.args.out.now) (g.W.Sink.faults c.follow.new.out)
     (g.S.Source.left c.args.updates.now) (g.S.Source.left c.follow.new.updates) (g.W.Sink.taken c.args.out.now) (g.W.Sink.taken c.follow.new.out)
     (Watched c.new-session.result.graph c.new-session.result.patterns) h judged tt so)
-    c.follow.ensures.halt
+    c.follow.ensures.status

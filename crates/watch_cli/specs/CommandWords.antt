@@ -5,6 +5,7 @@ use Rattle.flux_model.specs.Verdict.{Shape, Watch, Match, Save}
 use Rattle.watch_cli.specs.declared.words.Shape.{Shape as LentShape}
 use Rattle.watch_cli.specs.declared.words.Shape.TheVariants as lent
 
+-- the bytes of each word
 abbrev pub texts : List (String Global) → List (List ℕ)
 texts words = map string_bytes words
 

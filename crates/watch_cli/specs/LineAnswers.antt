@@ -3,6 +3,7 @@ use Rattle.flux_model.specs.Report.{Outcome, Ignored, Rejected, Changed}
 use Rattle.watch_cli.specs.declared.session.Answer.{Answer}
 use Rattle.watch_cli.specs.declared.session.Answer.TheVariants as answer
 
+-- whether it was ignored, accepted or refused
 abbrev pub answer_of : Outcome → Answer
 answer_of Ignored = answer.Ignored
 answer_of (Rejected _) = answer.Refused

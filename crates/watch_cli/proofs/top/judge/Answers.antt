@@ -1,0 +1,10 @@
+use Rattle.flux_model.specs.Verdict.{shape_of}
+use Rattle.watch_cli.specs.CommandWords.{seen_shape, texts}
+use Rattle.watch_cli.proofs.TopLemmas.{early-usage, early-done}
+use Rattle.watch_cli.proofs.top.judge.Goals as goal
+
+pub returns-in-Err-clause-usage : goal.returns-in-Err-clause-usage
+returns-in-Err-clause-usage g c = early-usage c.in-Err.status (shape_of (texts c.args.words.now)) _ c.in-Err.ensures.early c.in-Some.ensures
+
+pub returns-in-Err-clause-end : goal.returns-in-Err-clause-end
+returns-in-Err-clause-end g c = early-done c.in-Err.status _ c.in-Err.ensures.early
