@@ -22,6 +22,7 @@ use Rattle.file_reading.specs.declared.stop.Stop.TheVariants as stop
 
 -- ---- what is known of a file
 
+-- what follows from it for all bytes
 pub HasFile-map : (files : Option Files) (name : List ℕ) (P Q : List ℕ → Type 0) → ((b : List ℕ) → P b → Q b) → HasFile files name P → HasFile files name Q
 HasFile-map None name P Q f h = tt
 HasFile-map (Some m) name P Q f h = by (m name) h
@@ -34,6 +35,7 @@ HasFile-map (Some m) name P Q f h = by (m name) h
 abbrev Begins : List ℕ → List ℕ → Type 0
 Begins text b = (more : List ℕ) × (b ≡ text ++ more)
 
+-- so does it where the file is told
 pub HasFront-from : (files : Option Files) (name text : List ℕ) → HasFile files name (Begins text) → HasFront files name text
 HasFront-from None name text h = tt
 HasFront-from (Some m) name text h = by (m name) h
@@ -67,11 +69,13 @@ told_at_first files0 files1 name buf answer from n same is told =
     subst (λ (fs : Option Files). IfSome fs (λ m. AnswersFor (m name) (Some n) from buf)) same
     (subst (λ (a : Option ℕ). IfSome files1 (λ m. AnswersFor (m name) a from buf)) is told)
 
+-- the same of a file that may be told
 pub HasFile-more : (files : Option Files) (name text buf : List ℕ) (n given : ℕ) → length text ≡ given → HasFront files name text
     → IfSome files (λ m. AnswersFor (m name) (Some n) given buf) → HasFile files name (λ b. Begins (text ++ take n buf) b × (length text + n ≤ length b))
 HasFile-more None name text buf n given count front told = tt
 HasFile-more (Some m) name text buf n given count front told = more_of (m name) text buf n front (subst (λ (k : ℕ). AnswersFor (m name) (Some n) k buf) (sym count) told)
 
+-- the same of a file that may be told
 pub HasFile-end : (files : Option Files) (name text buf : List ℕ) (n given : ℕ) → length text ≡ given → n ≡ 0 → 0 < length buf → HasFront files name text
     → IfSome files (λ m. AnswersFor (m name) (Some n) given buf) → HasFile files name (λ b. b ≡ text)
 HasFile-end None name text buf n given count zero room front told = tt
@@ -117,6 +121,7 @@ module _ {S : Type 0} (step : ℕ → S → InputLine → Result S Bad) (n : ℕ
       let add = (pushed given taken first now w0 w1 files name piece so follows).0 in
       omega (arith, so.number, so.count, len, length-whole n (so.bytes ++ piece), ap length add, length-append (whole n so.bytes) w1.queue, length-append so.bytes piece)
 
+  -- so does the number of lines before a read
   pub some_lines_fit : (given taken : ℕ) (first now : S) (w : Waiting) (files : Option Files) (name : List ℕ) → FileRead step n given taken first now w files name → taken ≤ given
   some_lines_fit given taken first now w files name so = omega (arith, so.number, so.count, length-whole n so.bytes)
 
@@ -182,6 +187,7 @@ module _ {S : Type 0} (step : ℕ → S → InputLine → Result S Bad) (n : ℕ
       ))
       (HasFile-more files name so.bytes buf count given so.count so.front told)
 
+  -- the same where the limit was reached
   pub FileRead-at_limit : (limit given count taken : ℕ) (first now : S) (w : Waiting) (files : Option Files) (name buf : List ℕ) → given ≡ limit
       → FileRead step n given taken first now w files name
       → IfSome files (λ m. AnswersFor (m name) (Some count) given buf) → 0 < count
@@ -266,6 +272,7 @@ module _ {S : Type 0} (step : ℕ → S → InputLine → Result S Bad) (limits 
   StopWhere-refused given count taken first now w0 w1 files name buf reads stop.NoFile so told len within follows read = absurd read
   StopWhere-refused given count taken first now w0 w1 files name buf reads stop.TooMuch so told len within follows read = absurd read
 
+  -- a file that goes on past the limit
   pub ReadAs-longer : (given count taken : ℕ) (first now : S) (w : Waiting) (files : Option Files) (name buf : List ℕ) → given ≡ limits.input_bytes
       → FileRead step limits.line_bytes given taken first now w files name
       → IfSome files (λ m. AnswersFor (m name) (Some count) given buf) → 0 < count
@@ -274,6 +281,7 @@ module _ {S : Type 0} (step : ℕ → S → InputLine → Result S Bad) (limits 
       longer-judged limits.input_bytes (λ b. read_from step 1 first (whole limits.line_bytes b)) (λ b. read_from step 1 first (lines limits.line_bytes b)) bad files name now
       (FileRead-at_limit step limits.line_bytes limits.input_bytes given count taken first now w files name buf full so told some)
 
+  -- a file that is not there
   pub ReadAs-none : (first : S) (files0 files1 : Option Files) (name buf : List ℕ) (answer : Option ℕ) (from : ℕ) → files1 ≡ files0 → answer ≡ None
       → IfSome files1 (λ m. AnswersFor (m name) answer from buf) → FileIs files0 name (read_as step limits first bad) (Err NoFile)
   ReadAs-none first files0 files1 name buf answer from same is told =

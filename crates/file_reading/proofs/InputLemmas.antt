@@ -44,10 +44,12 @@ module _ {S T E : Type 0} (wrap : S → T) where
   unwrapped (Ok s) t e = (s, refl, cc)
   unwrapped (Err bad) t e = cc
 
+  -- what was refused before it was wrapped up
   pub refused_within : (r : Result S E) (e : E) → result_and_then (λ s. Ok (wrap s)) r ≡ Err e → r ≡ Err e
   refused_within (Ok s) e is = cc
   refused_within (Err b) e is = cc
 
+  -- wrapping up refuses nothing
   pub accepted_within : (r : Result S E) → is_ok (result_and_then (λ s. Ok (wrap s)) r) ≡ is_ok r
   accepted_within (Ok s) = refl
   accepted_within (Err b) = refl
@@ -60,6 +62,7 @@ FileIs-map (Some m) name f g x y so h = so (m name) h
 
 -- ---- graph files
 
+-- a graph under its limits
 abbrev pub kept_under : Limits → Graph → LimitedGraph
 kept_under limits g = record { limits = limits; graph = g }
 
@@ -80,6 +83,7 @@ graph-from : (limits : Limits) (first : LimitedGraph) (o : Option (List ℕ)) �
     → read_as after_graph_line limits first BadGraph o ≡ result_and_then (λ g. Ok (kept_under limits g)) (graph_file limits o)
 graph-from limits first o is = ap (λ s. read_as after_graph_line limits s BadGraph o) is ∙ graph-as limits o
 
+-- the graph file is accepted
 pub graph-accepted : (limits : Limits) (files : Option Files) (name : List ℕ) (first now : LimitedGraph) → first ≡ kept_under limits empty_graph
     → FileIs files name (read_as after_graph_line limits first BadGraph) (Ok now) → FileIs files name (graph_file limits) (Ok now.graph)
 graph-accepted limits files name first now is h =
@@ -101,6 +105,7 @@ graph-limits limits first now ls is e =
     let u = unwrapped (kept_under limits) (read_graph limits (map graph_reading ls)) now (sym (graph-read limits ls) ∙ ap (λ s. read_from after_graph_line 1 s ls) (sym is) ∙ e) in
     sym (ap (λ (l : LimitedGraph). l.limits) u.2)
 
+-- why the reading of a graph file stops
 pub graph-stops : (limits : Limits) (files : Option Files) (name : List ℕ) (first : LimitedGraph) (reads : Type 0) (s : Stop) → first ≡ kept_under limits empty_graph
     → ((bad : Bad → Verdict) → StopWhere (λ v. FileIs files name (read_as after_graph_line limits first bad) (Err v)) bad reads s)
     → StopWhere (λ v. FileIs files name (graph_file limits) (Err v)) BadGraph reads s
@@ -143,6 +148,7 @@ pattern-as limits o =
     file_as-next limits.input_bytes (λ b. read_patterns limits (map pattern_reading (whole limits.line_bytes b))) (λ b. read_patterns limits (map pattern_reading (lines limits.line_bytes b))) BadPatterns
     (λ b. read_patterns limits (map pattern_reading (whole limits.line_bytes b))) (patterns_of limits) close (λ b. refl) (λ b. refl) o
 
+-- what closing the last pattern comes to is what the file does
 pub patterns-closed : (limits : Limits) (files : Option Files) (name : List ℕ) (first now : PatternReading) (r : Result (List PatternGraph) Bad) → first ≡ reading_under limits empty_draft
     → FileIs files name (read_as after_pattern_line limits first BadPatterns) (Ok now) → r ≡ close now.draft
     → FileIs files name (pattern_file limits) (result_map_both (λ y. y) BadPatterns r)
@@ -161,6 +167,7 @@ patterns-refused limits files name first v is h =
     pattern-as limits o
     ∙ ap (result_and_then (λ d. result_map_both (λ y. y) BadPatterns (close d))) (refused_within (reading_under limits) (draft_file limits o) v (sym (draft-as limits first o is) ∙ e))) h
 
+-- why the reading of a pattern file stops
 pub patterns-stops : (limits : Limits) (files : Option Files) (name : List ℕ) (first : PatternReading) (reads : Type 0) (s : Stop) → first ≡ reading_under limits empty_draft
     → ((bad : Bad → Verdict) → StopWhere (λ v. FileIs files name (read_as after_pattern_line limits first bad) (Err v)) bad reads s)
     → StopWhere (λ v. FileIs files name (pattern_file limits) (Err v)) BadPatterns reads s

@@ -19,6 +19,7 @@ judged (Some m) name P judge x f h = by (m name) h
     by (Some b) h = f b h
 
 module _ {S T : Type 0} (n : ℕ) (front : List ℕ → Result S Bad) (all : List ℕ → Result T Bad) (bad : Bad → Verdict) where
+  -- a file within the limit is judged by all its lines
   pub short-file : (b : List ℕ) → length b ≤ n → file_as n front all bad (Some b) ≡ result_map_both (λ x. x) bad (all b)
   short-file b le = rw (le-ltb n (length b) le) refl
 
@@ -33,23 +34,27 @@ module _ {S T : Type 0} (n : ℕ) (front : List ℕ → Result S Bad) (all : Lis
   longer-file : (b : List ℕ) (s : S) → n < length b → front (take n b) ≡ Ok s → file_as n front all bad (Some b) ≡ Err TooMuch
   longer-file b s lt is = rw (lt-ltb n (length b) lt, is) refl
 
+  -- a file within the limit
   pub short-judged : (files : Option Files) (name : List ℕ) (r : Result T Bad) → HasFile files name (λ b. (length b ≤ n) × (all b ≡ r))
       → FileIs files name (file_as n front all bad) (result_map_both (λ x. x) bad r)
   short-judged files name r h =
       judged files name (λ b. (length b ≤ n) × (all b ≡ r)) (file_as n front all bad) (result_map_both (λ x. x) bad r)
       (λ b so. short-file b so.0 ∙ ap (result_map_both (λ x. x) bad) so.1) h
 
+  -- a file that is refused among the first bytes
   pub refused-judged : (files : Option Files) (name : List ℕ) (e : Bad) → HasFile files name (λ b. (front (take n b) ≡ Err e) × (all b ≡ Err e))
       → FileIs files name (file_as n front all bad) (Err (bad e))
   refused-judged files name e h =
       judged files name (λ b. (front (take n b) ≡ Err e) × (all b ≡ Err e)) (file_as n front all bad) (Err (bad e))
       (λ b so. refused-file b e so.0 ∙ ap (result_map_both (λ x. x) bad) so.1) h
 
+  -- a file that goes on past the limit
   pub longer-judged : (files : Option Files) (name : List ℕ) (s : S) → HasFile files name (λ b. (n < length b) × (front (take n b) ≡ Ok s))
       → FileIs files name (file_as n front all bad) (Err TooMuch)
   longer-judged files name s h =
       judged files name (λ b. (n < length b) × (front (take n b) ≡ Ok s)) (file_as n front all bad) (Err TooMuch) (λ b so. longer-file b s so.0 so.1) h
 
+  -- a file that is not there
   pub no_file-judged : (files : Option Files) (name buf : List ℕ) (from : ℕ) → IfSome files (λ m. AnswersFor (m name) None from buf)
       → FileIs files name (file_as n front all bad) (Err NoFile)
   no_file-judged None name buf from h = tt

@@ -17,4 +17,5 @@ after_graph_line k kept line =
 -- a reader of patterns that has accepted the line can take the next
 abbrev pub after_pattern_line : ℕ → PatternReading → InputLine → Result PatternReading Bad
 after_pattern_line k reading line =
-    result_and_then (λ draft. Ok (record reading { draft = draft; spent = false })) (patterns_after_line reading.limits k reading.draft (pattern_reading line))
+    result_and_then (λ draft. Ok (record reading { draft = draft; spent = false }))
+    (patterns_after_line reading.limits k reading.draft (pattern_reading line))

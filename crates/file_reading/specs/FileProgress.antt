@@ -16,7 +16,8 @@ abbrev pub HasFront : Option Files → List ℕ → List ℕ → Type 0
 HasFront files name bytes = IfSome files (λ m. IsFront (m name) bytes)
 
 -- after so many bytes of a file: each whole line of them was taken, and what has come of the next waits
-pub record FileRead {S : Type 0} (after_line : ℕ → S → InputLine → Result S Bad) (line_bytes given taken_lines : ℕ) (first now : S) (waiting : Waiting) (files : Option Files) (name : List ℕ) : Type 0 where
+pub record FileRead {S : Type 0} (after_line : ℕ → S → InputLine → Result S Bad) (line_bytes given taken_lines : ℕ) (first now : S)
+    (waiting : Waiting) (files : Option Files) (name : List ℕ) : Type 0 where
   pub bytes : List ℕ
   pub count : length bytes ≡ given
   pub front : HasFront files name bytes

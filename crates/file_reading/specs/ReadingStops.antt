@@ -9,10 +9,11 @@ use Rattle.flux_model.specs.declared.limits.Limits.{Limits}
 use Rattle.file_reading.specs.declared.stop.Stop.{Stop}
 use Rattle.file_reading.specs.declared.stop.Stop.TheVariants as stop
 
--- what a file is read as, from what is kept at first on, where `after_line` says what a line makes of it and `bad` what its refusal is called
+-- what a file is read as, from what is kept at first on: `after_line` says what a line makes of it, and `bad` what a refusal is called
 abbrev pub read_as : {S : Type 0} → (ℕ → S → InputLine → Result S Bad) → Limits → S → (Bad → Verdict) → Option (List ℕ) → Result S Verdict
 read_as after_line limits first bad file =
-    file_as limits.input_bytes (λ b. read_from after_line 1 first (whole limits.line_bytes b)) (λ b. read_from after_line 1 first (lines limits.line_bytes b)) bad file
+    file_as limits.input_bytes (λ b. read_from after_line 1 first (whole limits.line_bytes b))
+    (λ b. read_from after_line 1 first (lines limits.line_bytes b)) bad file
 
 -- taking lines stops where memory is refused, or where a line is
 abbrev pub LinesStop : {S : Type 0} → Result S Bad → Stop → Type 0

@@ -71,7 +71,8 @@ pub fn read_file<F: Shelf, T: TakeLine>(
 ) -> Result<(), Stop>
     requires fair { IsFair limits.now }
     requires ready { T.is_spent file.old ≡ false }
-    ensures ok { OnOk result ((bad : Bad → Verdict) → FileIs (F.files shelf.old) name.now (read_as T.after_line limits.now file.old bad) (Ok file.new)) }
+    ensures ok { OnOk result ((bad : Bad → Verdict) →
+        FileIs (F.files shelf.old) name.now (read_as T.after_line limits.now file.old bad) (Ok file.new)) }
     ensures taken { OnOk result ((lines : List InputLine) × (read_from T.after_line 1 file.old lines ≡ Ok file.new)) }
     ensures ready { OnOk result (T.is_spent file.new ≡ false) }
     ensures same { F.files shelf.new ≡ F.files shelf.old }

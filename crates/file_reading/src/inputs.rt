@@ -29,8 +29,9 @@ pub fn read_graph<F: Shelf>(
     ensures limits { IfOk result (λ kept. kept.limits ≡ limits.now) }
     ensures same { F.files shelf.new ≡ F.files shelf.old }
     ensures later { F.faults shelf.old ≤ F.faults shelf.new }
-    ensures stop { IfErr result (StopWhere (λ verdict. FileIs (F.files shelf.old) name.now (graph_file limits.now) (Err verdict)) BadGraph
-        (Rose (F.faults shelf.old) (F.faults shelf.new))) }
+    ensures stop { IfErr result (StopWhere
+        (λ verdict. FileIs (F.files shelf.old) name.now (graph_file limits.now) (Err verdict))
+        BadGraph (Rose (F.faults shelf.old) (F.faults shelf.new))) }
 {
     let mut graph = PlainGraph::new(alloc, limits);
     read_file(alloc, limits, shelf, name, &mut graph)?;
@@ -52,8 +53,9 @@ pub fn read_store<F: Shelf, G: KeepGraph>(
     ensures limits { IfOk result (λ graph. G.limits graph ≡ limits.now) }
     ensures same { F.files shelf.new ≡ F.files shelf.old }
     ensures later { F.faults shelf.old ≤ F.faults shelf.new }
-    ensures stop { IfErr result (StopWhere (λ verdict. FileIs (F.files shelf.old) name.now (graph_file limits.now) (Err verdict)) BadGraph
-        (Rose (F.faults shelf.old) (F.faults shelf.new))) }
+    ensures stop { IfErr result (StopWhere
+        (λ verdict. FileIs (F.files shelf.old) name.now (graph_file limits.now) (Err verdict))
+        BadGraph (Rose (F.faults shelf.old) (F.faults shelf.new))) }
 {
     let mut reader = StoreReader { graph: empty };
     read_file(alloc, limits, shelf, name, &mut reader)?;
@@ -71,8 +73,9 @@ pub fn read_patterns<F: Shelf>(
     ensures ok { IfOk result (λ patterns. FileIs (F.files shelf.old) name.now (pattern_file limits.now) (Ok patterns)) }
     ensures same { F.files shelf.new ≡ F.files shelf.old }
     ensures later { F.faults shelf.old ≤ F.faults shelf.new }
-    ensures stop { IfErr result (StopWhere (λ verdict. FileIs (F.files shelf.old) name.now (pattern_file limits.now) (Err verdict)) BadPatterns
-        (Rose (F.faults shelf.old) (F.faults shelf.new))) }
+    ensures stop { IfErr result (StopWhere
+        (λ verdict. FileIs (F.files shelf.old) name.now (pattern_file limits.now) (Err verdict))
+        BadPatterns (Rose (F.faults shelf.old) (F.faults shelf.new))) }
 {
     let mut reader = PatternReader::new(alloc, limits);
     read_file(alloc, limits, shelf, name, &mut reader)?;

@@ -9,7 +9,7 @@ ghost use Rattle.graph_traits.specs.Changes.{IfNotMade};
 ghost use Rattle.watch_core.specs.Repeated.{is_repeat};
 
 use flux_model::{Code, Line, Said, Update};
-use label_graph::KeepGraph;
+use graph_traits::KeepGraph;
 use line_grammar::read_graph_line;
 use std::alloc::{AllocError, Global};
 
@@ -43,8 +43,10 @@ pub fn take_graph_line<G: KeepGraph>(
 
 /// Makes the change of an update, or answers its first refusal.
 fn apply<G: KeepGraph>(graph: &mut G, update: &Update) -> Result<Result<(), Code>, AllocError>
-    ensures ok { IfOk result (λ answer. OnOk answer (after_update (G.limits graph.old) (G.graph graph.old) update.now ≡ Ok (G.graph graph.new))) }
-    ensures refused { IfOk result (λ answer. IfErr answer (λ code. after_update (G.limits graph.old) (G.graph graph.old) update.now ≡ Err code)) }
+    ensures ok { IfOk result (λ answer. OnOk answer (
+        after_update (G.limits graph.old) (G.graph graph.old) update.now ≡ Ok (G.graph graph.new))) }
+    ensures refused { IfOk result (λ answer. IfErr answer (λ code.
+        after_update (G.limits graph.old) (G.graph graph.old) update.now ≡ Err code)) }
     ensures unchanged { IfNotMade result (G.graph graph.new ≡ G.graph graph.old) }
     ensures limits { G.limits graph.new ≡ G.limits graph.old }
     ensures graph { IsGraph (G.graph graph.old) }
