@@ -88,7 +88,8 @@ impl Eq for Map {
 impl PartialOrd for Map {
     ghost partial_cmp = { as_partial_cmp (slice_cmp nat_cmp) };
 
-    ghost laws = { partial_order_from_agreeing_total (slice_cmp nat_cmp) nat_list_cmp_total (λ _ _. refl) (lists_ties nat_cmp unsigned_ties) };
+    ghost laws = { partial_order_from_agreeing_total (slice_cmp nat_cmp) nat_list_cmp_total (λ _ _. refl)
+        (lists_ties nat_cmp unsigned_ties) };
 
     fn partial_cmp(&self, other: &Map) -> Option<Ordering> {
         Some(self.cmp(other))

@@ -9,8 +9,10 @@ use std::alloc::AllocError;
 /// Puts each list of maps in ascending order. At `AllocError` each has its maps in some order.
 pub(crate) fn sort_all(deltas: &mut Vec<Delta>) -> Result<(), AllocError>
     ensures len { length deltas.new.items ≡ length deltas.old.items }
-    ensures same { (k : ℕ) (d : Delta) → k < length deltas.old.items → IsReordered (slice_index_or deltas.old.items k d) (slice_index_or deltas.new.items k d) }
-    ensures sorted { OnOk result ((k : ℕ) (d : Delta) → k < length deltas.old.items → IsInOrder (slice_index_or deltas.new.items k d)) }
+    ensures same { (k : ℕ) (d : Delta) → k < length deltas.old.items
+        → IsReordered (slice_index_or deltas.old.items k d) (slice_index_or deltas.new.items k d) }
+    ensures sorted { OnOk result ((k : ℕ) (d : Delta) → k < length deltas.old.items
+        → IsInOrder (slice_index_or deltas.new.items k d)) }
 {
     for i in 0..deltas.len() {
         sort_one(&mut deltas[i])?;

@@ -53,7 +53,8 @@ impl PatternIndex {
         requires belongs { BelongsTo pattern.now self.now.tree }
         requires exact { IsExact pattern.now self.now.tree (G.graph graph.now) self.now.dcg }
         ensures all { IfOk result (λ maps. IsPermutation (embeddings pattern.now (G.graph graph.now)) maps) }
-        ensures steps { OnOk result (MeetsNoDeadEnd pattern.now self.now.tree → steps.new ≤ steps.old + no_dead_end_cost pattern.now self.now.tree (G.graph graph.now)) }
+        ensures steps { OnOk result (MeetsNoDeadEnd pattern.now self.now.tree
+            → steps.new ≤ steps.old + no_dead_end_cost pattern.now self.now.tree (G.graph graph.now)) }
     {
         let mut maps = Maps::new(alloc);
         all(

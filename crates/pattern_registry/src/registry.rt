@@ -83,7 +83,8 @@ impl Registry {
     ) -> Result<Deltas, AllocError>
         requires { AreExact self.now (G.graph graph.now) }
         ensures answers { IfOk result (λ deltas. AreReordered (answer_deltas 0 (G.graph graph.now) self.now.patterns) deltas) }
-        ensures steps { OnOk result (MeetNoDeadEnd self.now → steps.new ≤ steps.old + no_dead_end_costs (G.graph graph.now) self.now.patterns self.now.trees) }
+        ensures steps { OnOk result (MeetNoDeadEnd self.now
+            → steps.new ≤ steps.old + no_dead_end_costs (G.graph graph.now) self.now.patterns self.now.trees) }
     {
         let mut deltas = Deltas::new(alloc);
         for k in 0..self.patterns.count() {

@@ -46,7 +46,8 @@ pub fn all<G: ReadGraph<L>, F: Found, L: Ledger>(
     requires exact { IsExact pattern.now tree.now (G.graph graph.now) dcg.now }
     ensures found { OnOk result (GrewByAll (F.list found.old) (F.list found.new) (embeddings pattern.now (G.graph graph.now))) }
     ensures some { OnErr result (GrewBySome (F.list found.old) (F.list found.new) (embeddings pattern.now (G.graph graph.now))) }
-    ensures steps { OnOk result (MeetsNoDeadEnd pattern.now tree.now → steps.new ≤ steps.old + no_dead_end_cost pattern.now tree.now (G.graph graph.now)) }
+    ensures steps { OnOk result (MeetsNoDeadEnd pattern.now tree.now
+        → steps.new ≤ steps.old + no_dead_end_cost pattern.now tree.now (G.graph graph.now)) }
 {
     let search = Search {
         pattern,
@@ -111,14 +112,20 @@ fn extend<G: ReadGraph<L>, F: Found, L: Ledger>(
     steps: &mut Steps<L>,
 ) -> Result<(), AllocError>
     requires ready { IsReady search.now.pattern.now search.now.tree.now search.now.dcg.now (G.graph search.now.graph.now) search.now.order }
-    requires numbers { AreNumbersOf (G.label_text search.now.graph.now) (G.graph search.now.graph.now) search.now.pattern.now search.now.numbers.items }
+    requires numbers { AreNumbersOf (G.label_text search.now.graph.now) (G.graph search.now.graph.now)
+        search.now.pattern.now search.now.numbers.items }
     requires some { 1 ≤ k }
     requires few { k ≤ length (vertices search.now.order) }
     requires given { IsGiven search.now.pattern.now search.now.tree.now (G.graph search.now.graph.now) search.now.order k partial.old }
     ensures partial { OnOk result (partial.new ≡ partial.old) }
-    ensures found { OnOk result (GrewByAll (F.list found.old) (F.list found.new) (members_from search.now.pattern.now (G.graph search.now.graph.now) partial.old)) }
-    ensures steps { OnOk result (MeetsNoDeadEnd search.now.pattern.now search.now.tree.now → search.now.order.start ≡ search.now.tree.now.root → steps.new ≤ steps.old + members_cost search.now.pattern.now search.now.tree.now (G.graph search.now.graph.now) search.now.order k partial.old) }
-    ensures some { OnErr result (GrewBySome (F.list found.old) (F.list found.new) (members_from search.now.pattern.now (G.graph search.now.graph.now) partial.old)) }
+    ensures found { OnOk result (GrewByAll (F.list found.old) (F.list found.new)
+        (members_from search.now.pattern.now (G.graph search.now.graph.now) partial.old)) }
+    ensures steps { OnOk result (MeetsNoDeadEnd search.now.pattern.now search.now.tree.now
+        → search.now.order.start ≡ search.now.tree.now.root
+        → steps.new ≤ steps.old
+        + members_cost search.now.pattern.now search.now.tree.now (G.graph search.now.graph.now) search.now.order k partial.old) }
+    ensures some { OnErr result (GrewBySome (F.list found.old) (F.list found.new)
+        (members_from search.now.pattern.now (G.graph search.now.graph.now) partial.old)) }
 {
     if k == search.order.len() {
         return hand_over(partial, found);
@@ -140,11 +147,13 @@ fn extend<G: ReadGraph<L>, F: Found, L: Ledger>(
 /// The row of the id of the anchor at place `k`, in the direction in which the tree edge leads to the vertex.
 fn row_to<'a, G: HoldGraph>(search: &'a Search<'_, G>, k: usize, partial: &Partial) -> GraphRow<'a>
     requires ready { IsReady search.now.pattern.now search.now.tree.now search.now.dcg.now (G.graph search.now.graph.now) search.now.order }
-    requires numbers { AreNumbersOf (G.label_text search.now.graph.now) (G.graph search.now.graph.now) search.now.pattern.now search.now.numbers.items }
+    requires numbers { AreNumbersOf (G.label_text search.now.graph.now) (G.graph search.now.graph.now)
+        search.now.pattern.now search.now.numbers.items }
     requires some { 1 ≤ k }
     requires few { k < length (vertices search.now.order) }
     requires given { IsGiven search.now.pattern.now search.now.tree.now (G.graph search.now.graph.now) search.now.order k partial.now }
-    ensures row { IsRowAt search.now.pattern.now search.now.tree.now search.now.order k partial.now result.vertex result.direction result.label.now }
+    ensures row { IsRowAt search.now.pattern.now search.now.tree.now search.now.order k partial.now
+        result.vertex result.direction result.label.now }
     ensures number { IsNumberOf (G.label_text search.now.graph.now) result.label.now result.label_number }
 {
     let w = search.order.vertex(k);
@@ -196,7 +205,8 @@ fn may_have<G: ReadGraph<L>, L: Ledger>(
     steps: &mut Steps<L>,
 ) -> bool
     requires ready { IsReady search.now.pattern.now search.now.tree.now search.now.dcg.now (G.graph search.now.graph.now) search.now.order }
-    requires numbers { AreNumbersOf (G.label_text search.now.graph.now) (G.graph search.now.graph.now) search.now.pattern.now search.now.numbers.items }
+    requires numbers { AreNumbersOf (G.label_text search.now.graph.now) (G.graph search.now.graph.now)
+        search.now.pattern.now search.now.numbers.items }
     requires places { length partial.now ≡ vertex_count search.now.pattern.now }
     requires vertex { w < length partial.now }
     requires open { slice_get partial.now w ≡ Some None }
