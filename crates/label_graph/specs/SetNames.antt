@@ -29,5 +29,5 @@ lowered_in set (Some x) = if is_in text_cmp x.text set then lowered (Some x) els
 pub record IsRaised (set : List (List ℕ)) (old new : List (Option Name)) : Type 0 where
   pub kept : (n : ℕ) (x : Name) → slot old n ≡ Some x → slot new n ≡ Some (raised_in set x)
   pub fresh : (n : ℕ) (x : Name) → slot old n ≡ None → slot new n ≡ Some x →
-    (x.uses ≡ 1) × (is_in text_cmp x.text set ≡ true) × IsUnknown old x.text
+      (x.uses ≡ 1) × (is_in text_cmp x.text set ≡ true) × IsUnknown old x.text
   pub known : (text : List ℕ) → IsUnknown new text → is_in text_cmp text set ≡ false

@@ -1,4 +1,4 @@
-use Rattle.std.proofs.Common.{◌≡◌, length, IsTrue}
+use Rattle.std.proofs.Common.{length, IsTrue}
 use Rattle.flux_model.specs.Graph.{has_vertex}
 use Rattle.label_graph.proofs.tests.calls.in_row.Given as goal
 
