@@ -1,0 +1,135 @@
+//! What is asked of one candidate of a search, worked out by hand.
+ghost use Rattle.flux_model.specs.Tree.{BelongsTo};
+
+use crate::made::{first, graph_of, patterns_of, tree_of};
+use crate::shapes::{HOOK, TRIANGLE};
+use flux_model::{Mode, Partial, Pattern, Steps, Tally};
+use label_graph::LabelGraph;
+use nontree_test::{free, joins, label_numbers};
+use query_tree::QueryTree;
+use std::alloc::{AllocError, Global};
+use std::process::Abort;
+use std::test::Fail;
+
+/// A vertex of the pattern with an id.
+type Given = (usize, u32);
+
+/// A vertex that has an id, a candidate beside it, whether it joins, and how many steps tell that.
+type Case = (Given, Given, bool, u64);
+
+/// Candidates of a pattern over a graph.
+#[derive(Clone, Copy)]
+struct Row {
+    graph: &'static str,
+    pattern: &'static str,
+    /// The cards by which the tree is chosen.
+    edges: &'static [u64],
+    vertices: &'static [u64],
+    cases: &'static [Case],
+}
+
+const ROWS: [Row; 2] = [
+    // The edge 0 -> 1 is left out.
+    Row {
+        graph: "v 1\nv 2\nv 3\ne 1 2 r\ne 3 1 r",
+        pattern: TRIANGLE,
+        edges: &[2, 1, 1],
+        vertices: &[3, 3, 3],
+        cases: &[
+            ((0, 1), (1, 2), true, 1),
+            ((0, 1), (1, 3), false, 1),
+            ((1, 2), (0, 1), true, 1),
+            ((1, 2), (0, 3), false, 1),
+            // Vertex 2 is no end of the edge.
+            ((0, 1), (2, 2), true, 0),
+            // The other end has no id.
+            ((2, 1), (1, 3), true, 0),
+            ((2, 1), (0, 3), true, 0),
+        ],
+    },
+    // The edge 1 -> 1 is left out. A loop is asked of its vertex alone.
+    Row {
+        graph: "v 1\nv 2\nv 3\ne 1 2 r\ne 2 2 r",
+        pattern: HOOK,
+        edges: &[2, 1],
+        vertices: &[2, 2],
+        cases: &[
+            ((0, 1), (1, 2), true, 1),
+            ((0, 1), (1, 1), false, 1),
+            ((1, 1), (0, 1), true, 0),
+        ],
+    },
+];
+
+/// Compares what is told of the candidates of a row.
+fn check(rt: &impl Abort, alloc: Global, row: &Row) -> Result<(), AllocError> {
+    let graph = graph_of(rt, alloc, row.graph)?;
+    let patterns = patterns_of(rt, alloc, row.pattern)?;
+    let pattern = first(rt, &patterns);
+    let tree = tree_of(rt, alloc, pattern, row.edges, row.vertices)?;
+    for case in row.cases {
+        check_case(rt, alloc, pattern, &tree, &graph, case)?;
+    }
+    Ok(())
+}
+
+/// Compares what is told of one candidate.
+fn check_case(
+    rt: &impl Abort,
+    alloc: Global,
+    pattern: &Pattern,
+    tree: &QueryTree,
+    graph: &LabelGraph,
+    case: &Case,
+) -> Result<(), AllocError>
+    requires { BelongsTo pattern.now tree.now }
+{
+    let ((u, id), (w, x), answer, reads) = *case;
+    let count = pattern.vertex_count();
+    assert!(rt; u < count && w < count);
+    let mut partial = Partial::new(count);
+    partial.put(u, id);
+    assert_eq!(rt; partial.get(w), None);
+    let numbers = label_numbers(alloc, pattern, graph)?;
+    let mut steps = Steps::new(Tally::new());
+    let joined = joins(
+        pattern,
+        tree,
+        numbers.as_slice(),
+        &partial,
+        w,
+        x,
+        graph,
+        &mut steps,
+    );
+    assert_eq!(rt; joined, answer);
+    assert_eq!(rt; steps.ledger().read(), reads);
+    Ok(())
+}
+
+#[test]
+fn candidates_beside_a_given_id(rt: HostRuntime) -> Result<(), Fail> {
+    for row in &ROWS {
+        check(&rt, rt.alloc(), row)?;
+    }
+    Ok(())
+}
+
+/// A mode, an id, and whether it may be given where 1 and 5 are.
+const FREE: [(Mode, u32, bool); 5] = [
+    (Mode::Hom, 5, true),
+    (Mode::Hom, 4, true),
+    (Mode::Iso, 1, false),
+    (Mode::Iso, 5, false),
+    (Mode::Iso, 4, true),
+];
+
+#[test]
+fn an_id_is_given_twice_in_mode_hom_alone(rt: HostRuntime) {
+    let mut partial = Partial::new(3);
+    partial.put(0, 1);
+    partial.put(2, 5);
+    for (mode, x, is_free) in FREE {
+        assert_eq!(rt; free(mode, &partial, x), is_free);
+    }
+}

@@ -1,0 +1,100 @@
+//! Orders of a search, worked out by hand from their definition.
+use crate::made::{first, patterns_of, tree_of};
+use crate::shapes::{CHAIN, DOT};
+use match_order::order;
+use std::alloc::{AllocError, Global};
+use std::process::Abort;
+use std::test::Fail;
+
+/// The order of the vertices of a pattern.
+#[derive(Clone, Copy)]
+struct Row {
+    pattern: &'static str,
+    /// The cards by which the tree is chosen.
+    edges: &'static [u64],
+    vertices: &'static [u64],
+    root: usize,
+    start: usize,
+    /// For each vertex how many candidates it has.
+    live: &'static [u64],
+    order: &'static [usize],
+    /// The anchors from the second vertex of the order on.
+    anchors: &'static [usize],
+}
+
+/// The chain, with the root 1 and the children 0 and 2.
+const FORK: Row = Row {
+    pattern: CHAIN,
+    edges: &[1, 0],
+    vertices: &[1, 1, 1],
+    root: 1,
+    start: 0,
+    live: &[],
+    order: &[],
+    anchors: &[],
+};
+
+const ROWS: [Row; 4] = [
+    // A chain is placed from its first vertex on.
+    Row {
+        start: 0,
+        live: &[1, 0, 0],
+        order: &[0, 1, 2],
+        anchors: &[0, 1],
+        ..FORK
+    },
+    // The vertex with the fewest pairs comes first.
+    Row {
+        start: 1,
+        live: &[2, 0, 1],
+        order: &[1, 2, 0],
+        anchors: &[1, 1],
+        ..FORK
+    },
+    // Of equals the lower vertex comes first.
+    Row {
+        start: 1,
+        live: &[3, 3, 3],
+        order: &[1, 0, 2],
+        anchors: &[1, 1],
+        ..FORK
+    },
+    // One vertex is an order.
+    Row {
+        pattern: DOT,
+        edges: &[],
+        vertices: &[5],
+        root: 0,
+        start: 0,
+        live: &[7],
+        order: &[0],
+        anchors: &[],
+    },
+];
+
+/// Compares the order of a row.
+fn check(rt: &impl Abort, alloc: Global, row: &Row) -> Result<(), AllocError> {
+    let patterns = patterns_of(rt, alloc, row.pattern)?;
+    let tree = tree_of(rt, alloc, first(rt, &patterns), row.edges, row.vertices)?;
+    assert_eq!(rt; tree.root(), row.root);
+    assert!(rt; row.start < tree.vertex_count());
+    assert_eq!(rt; row.live.len(), tree.vertex_count());
+    let order = order(alloc, &tree, row.start, row.live)?;
+    assert_eq!(rt; order.len(), row.order.len());
+    for j in 0..row.order.len() {
+        assert_eq!(rt; order.vertex(j), row.order[j]);
+    }
+    assert_eq!(rt; order.len(), row.anchors.len() + 1);
+    for j in 0..row.anchors.len() {
+        assert_eq!(rt; order.anchor(j + 1), row.anchors[j]);
+    }
+    Ok(())
+}
+
+#[test]
+fn orders_of_searches(rt: HostRuntime) -> Result<(), Fail> {
+    for row in &ROWS {
+        check(&rt, rt.alloc(), row)?;
+    }
+    Ok(())
+}

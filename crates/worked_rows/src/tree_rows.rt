@@ -1,0 +1,153 @@
+//! Trees, worked out by hand from the definition of their growth.
+use crate::made::{first, patterns_of, tree_of};
+use crate::shapes::{BOTH, CHAIN, DOT, HOOK, TRIANGLE};
+use query_tree::numbers::least_by;
+use query_tree::{QueryTree, TreeLink};
+use std::alloc::{AllocError, Global};
+use std::process::Abort;
+use std::test::Fail;
+
+/// The tree of a pattern for cards of its edges and of its vertices.
+#[derive(Clone, Copy)]
+struct Row {
+    pattern: &'static str,
+    edges: &'static [u64],
+    vertices: &'static [u64],
+    root: usize,
+    /// For each vertex but the root its parent, the edge that it hangs by, and its place among the parent's children.
+    links: &'static [Option<(usize, usize, usize)>],
+    /// For each vertex those that hang from it.
+    children: &'static [&'static [usize]],
+    /// The edges that no link names.
+    non_tree: &'static [usize],
+}
+
+const ROWS: [Row; 6] = [
+    // The edge of least card has the root.
+    Row {
+        pattern: CHAIN,
+        edges: &[1, 0],
+        vertices: &[1, 1, 1],
+        root: 1,
+        links: &[Some((1, 0, 0)), None, Some((1, 1, 1))],
+        children: &[&[], &[0, 2], &[]],
+        non_tree: &[],
+    },
+    // A circle leaves one edge out.
+    Row {
+        pattern: TRIANGLE,
+        edges: &[2, 1, 1],
+        vertices: &[3, 3, 3],
+        root: 1,
+        links: &[Some((2, 2, 0)), None, Some((1, 1, 0))],
+        children: &[&[], &[2], &[0]],
+        non_tree: &[0],
+    },
+    // A loop has the root and no link.
+    Row {
+        pattern: HOOK,
+        edges: &[2, 1],
+        vertices: &[2, 2],
+        root: 1,
+        links: &[Some((1, 0, 0)), None],
+        children: &[&[], &[0]],
+        non_tree: &[1],
+    },
+    // One of two edges is in the tree.
+    Row {
+        pattern: BOTH,
+        edges: &[3, 3],
+        vertices: &[5, 4],
+        root: 1,
+        links: &[Some((1, 0, 0)), None],
+        children: &[&[], &[0]],
+        non_tree: &[1],
+    },
+    Row {
+        pattern: BOTH,
+        edges: &[3, 2],
+        vertices: &[4, 5],
+        root: 0,
+        links: &[None, Some((0, 1, 0))],
+        children: &[&[1], &[]],
+        non_tree: &[0],
+    },
+    // One vertex is the root.
+    Row {
+        pattern: DOT,
+        edges: &[],
+        vertices: &[7],
+        root: 0,
+        links: &[None],
+        children: &[&[]],
+        non_tree: &[],
+    },
+];
+
+/// Compares the tree of a row.
+fn check(rt: &impl Abort, alloc: Global, row: &Row) -> Result<(), AllocError> {
+    let patterns = patterns_of(rt, alloc, row.pattern)?;
+    let tree = tree_of(rt, alloc, first(rt, &patterns), row.edges, row.vertices)?;
+    assert_eq!(rt; tree.root(), row.root);
+    assert_eq!(rt; tree.non_tree(), row.non_tree);
+    assert_eq!(rt; tree.vertex_count(), row.links.len());
+    for u in 0..row.links.len() {
+        check_link(rt, &tree, u, row.links[u]);
+    }
+    assert_eq!(rt; tree.vertex_count(), row.children.len());
+    for u in 0..row.children.len() {
+        assert_eq!(rt; tree.children(u), row.children[u]);
+    }
+    Ok(())
+}
+
+/// Compares how a vertex hangs.
+fn check_link(rt: &impl Abort, tree: &QueryTree, u: usize, link: Option<(usize, usize, usize)>) {
+    assert!(rt; u < tree.vertex_count());
+    match link {
+        None => assert_eq!(rt; tree.parent(u), None),
+        Some((parent, edge, number)) => {
+            assert_eq!(rt; tree.parent(u), Some(TreeLink { parent, edge }));
+            assert_ne!(rt; u, tree.root());
+            assert_eq!(rt; tree.child_number(u), number);
+        }
+    }
+}
+
+#[test]
+fn trees_of_patterns(rt: HostRuntime) -> Result<(), Fail> {
+    for row in &ROWS {
+        check(&rt, rt.alloc(), row)?;
+    }
+    Ok(())
+}
+
+/// Two vertices of the first tree above, and whether the second hangs from the first. There is no vertex 3.
+const HANGING: [(usize, usize, bool); 6] = [
+    (1, 0, true),
+    (1, 2, true),
+    (0, 1, false),
+    (2, 0, false),
+    (1, 1, false),
+    (1, 3, false),
+];
+
+#[test]
+fn a_vertex_hangs_from_its_parent_alone(rt: HostRuntime) -> Result<(), Fail> {
+    let alloc = rt.alloc();
+    let patterns = patterns_of(&rt, alloc, CHAIN)?;
+    let tree = tree_of(&rt, alloc, first(&rt, &patterns), &[1, 0], &[1, 1, 1])?;
+    for (parent, u, hangs) in HANGING {
+        assert_eq!(rt; tree.is_child(parent, u), hangs);
+    }
+    Ok(())
+}
+
+#[test]
+fn the_first_of_the_least_keys_is_chosen(rt: HostRuntime) -> Result<(), Fail> {
+    let keys = [5, 2, 7, 2, 1];
+    assert_eq!(rt; least_by(&keys, |i| i < 4), Some(1));
+    assert_eq!(rt; least_by(&keys, |i| i == 2), Some(2));
+    assert_eq!(rt; least_by(&keys, |i| i > 4), None);
+    Ok(())
+}

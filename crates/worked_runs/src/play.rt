@@ -1,0 +1,168 @@
+//! A run over files, updates and outputs in memory.
+ghost use Rattle.flux_model.specs.Limits.{IsFair};
+
+use flux_model::{Limits, Silent, Steps};
+use flux_outside::{MemShelf, MemSink, MemSource};
+use std::alloc::{AllocError, Global};
+use std::process::Abort;
+use watch_cli::{Status, run};
+
+/// The one limit that is below its standard.
+#[derive(Clone, Copy)]
+pub enum Lower {
+    None,
+    Edges(u64),
+    Labels(u64),
+    PatternVertices(u64),
+    InputBytes(u64),
+}
+
+/// A run: its words, what lies outside, and how it has to end.
+#[derive(Clone, Copy)]
+pub struct Run {
+    pub words: &'static [&'static str],
+    pub lower: Lower,
+    /// The file `g`.
+    pub graph: &'static str,
+    /// The file `p`.
+    pub patterns: &'static str,
+    /// The numbers of the reads of a file that fail.
+    pub failing_files: &'static [u64],
+    pub updates: &'static str,
+    /// The sizes of the pieces that the updates come in, and the numbers of their reads that fail.
+    pub cuts: &'static [u64],
+    pub failing: &'static [u64],
+    /// How many bytes the two outputs take.
+    pub room: usize,
+    pub err_room: usize,
+    pub status: Status,
+    pub number: u8,
+    pub out: &'static str,
+    pub err: &'static str,
+}
+
+/// The two labelled vertices that many runs begin with.
+pub const GRAPH: &str = "v 1 A\nv 2 B\n";
+
+/// The edge between them that many runs watch.
+pub const PATTERN: &str = "p ab hom\nv 0 A\nv 1 B\ne 0 1 r\n";
+
+/// `watch g p`, to its end.
+pub const WATCH: Run = Run {
+    words: &["watch", "g", "p"],
+    lower: Lower::None,
+    graph: GRAPH,
+    patterns: PATTERN,
+    failing_files: &[],
+    updates: "e 1 2 r\n",
+    cuts: &[],
+    failing: &[],
+    room: 999,
+    err_room: 99,
+    status: Status::Done,
+    number: 0,
+    out: "",
+    err: "",
+};
+
+/// `match g p`, to its end. Any read of the updates fails.
+pub const MATCH: Run = Run {
+    words: &["match", "g", "p"],
+    failing: &[0],
+    ..WATCH
+};
+
+/// `save g`, to its end. Any read of the updates fails.
+pub const SAVE: Run = Run {
+    words: &["save", "g"],
+    failing: &[0],
+    ..WATCH
+};
+
+/// Runs, and compares how the run ended and what it wrote.
+pub fn play(rt: &impl Abort, alloc: Global, row: &Run, updates: &[u8]) -> Result<(), AllocError> {
+    let limits = limits_of(row.lower);
+    assert!(rt; limits.fair());
+    let words = words_of(alloc, row.words)?;
+    let mut shelf = shelf_of(alloc, row)?;
+    let mut updates = MemSource::new(alloc, updates, row.cuts, row.failing)?;
+    let mut out = MemSink::new(alloc, row.room)?;
+    let mut err = MemSink::new(alloc, row.err_room)?;
+    let status = end_of(
+        alloc,
+        &words,
+        &limits,
+        &mut shelf,
+        &mut updates,
+        &mut out,
+        &mut err,
+    );
+    assert_eq!(rt; status, row.status);
+    assert_eq!(rt; status.number(), row.number);
+    assert_eq!(rt; out.bytes(), row.out.as_bytes());
+    assert_eq!(rt; err.bytes(), row.err.as_bytes());
+    Ok(())
+}
+
+/// Runs, and says how that ended.
+fn end_of(
+    alloc: Global,
+    words: &[String],
+    limits: &Limits,
+    shelf: &mut MemShelf,
+    updates: &mut MemSource,
+    out: &mut MemSink,
+    err: &mut MemSink,
+) -> Status
+    requires { IsFair limits.now }
+{
+    let mut steps = Steps::new(Silent);
+    let ended = run(alloc, words, limits, shelf, updates, out, err, &mut steps);
+    ended.status
+}
+
+/// Runs each row of a table.
+pub fn play_all(rt: &impl Abort, alloc: Global, rows: &[Run]) -> Result<(), AllocError> {
+    for row in rows {
+        play(rt, alloc, row, row.updates.as_bytes())?;
+    }
+    Ok(())
+}
+
+/// The standard limits with one below.
+fn limits_of(lower: Lower) -> Limits {
+    let standard = Limits::standard();
+    match lower {
+        Lower::None => standard,
+        Lower::Edges(edges) => Limits { edges, ..standard },
+        Lower::Labels(labels) => Limits { labels, ..standard },
+        Lower::PatternVertices(pattern_vertices) => Limits {
+            pattern_vertices,
+            ..standard
+        },
+        Lower::InputBytes(input_bytes) => Limits {
+            input_bytes,
+            ..standard
+        },
+    }
+}
+
+/// The words as a command line has them.
+fn words_of(alloc: Global, words: &[&str]) -> Result<Vec<String>, AllocError> {
+    let mut all = Vec::new(alloc);
+    for word in words {
+        all.push(String::from_str(alloc, word)?)?;
+    }
+    Ok(all)
+}
+
+/// A shelf with the two files of a run.
+fn shelf_of(alloc: Global, row: &Run) -> Result<MemShelf, AllocError> {
+    let mut shelf = MemShelf::new(alloc);
+    shelf.add("g", row.graph.as_bytes())?;
+    shelf.add("p", row.patterns.as_bytes())?;
+    for call in row.failing_files {
+        shelf.fail_at(*call)?;
+    }
+    Ok(shelf)
+}
