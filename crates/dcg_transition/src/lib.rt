@@ -14,7 +14,5 @@ mod extend;
 mod levels;
 mod reach;
 mod rows;
-#[cfg(test)]
-mod tests;
 
 pub use rows::build;

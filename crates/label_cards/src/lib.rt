@@ -8,7 +8,5 @@
 
 mod pass;
 mod row;
-#[cfg(test)]
-mod tests;
 
 pub use pass::cards;

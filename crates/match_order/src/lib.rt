@@ -11,7 +11,5 @@
 mod frontier;
 mod place;
 mod search_order;
-#[cfg(test)]
-mod tests;
 
 pub use search_order::{SearchOrder, order};

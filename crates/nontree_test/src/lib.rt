@@ -12,8 +12,6 @@
 mod edges;
 mod ids;
 mod numbers;
-#[cfg(test)]
-mod tests;
 
 pub use edges::joins;
 pub use ids::free;

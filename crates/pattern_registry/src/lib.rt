@@ -6,7 +6,5 @@
 
 mod index;
 mod registry;
-#[cfg(test)]
-mod tests;
 
 pub use registry::Registry;

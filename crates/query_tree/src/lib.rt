@@ -7,8 +7,6 @@
 
 mod growth;
 pub mod numbers;
-#[cfg(test)]
-mod tests;
 mod tree;
 
 pub use flux_model::TreeLink;

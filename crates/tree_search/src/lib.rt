@@ -12,8 +12,6 @@
 
 mod found;
 mod search;
-#[cfg(test)]
-mod tests;
 
 pub use found::Found;
 pub use search::all;

@@ -7,21 +7,13 @@
 #![tactic(auto)]
 
 mod answers;
-#[cfg(test)]
-mod answers_tests;
 mod embeddings;
-#[cfg(test)]
-mod example_tests;
 #[cfg(test)]
 mod order_tests;
 mod report;
 mod save;
-#[cfg(test)]
-mod save_tests;
 mod session;
 mod status;
-#[cfg(test)]
-mod tests;
 mod top;
 mod updates;
 mod watch;
