@@ -31,7 +31,8 @@ pub struct LabelGraph {
     places: Standing,
     ghost placed: { ArePlaced nodes.entries places.entries },
     ghost named: { IsNamed names (map vertex_of nodes.entries) (keys_of places.entries) },
-    ghost held: { IsWithinLimits limits (kept_graph names (map vertex_of nodes.entries) (keys_of places.entries)) } by { Prim.hlevel props },
+    ghost held: { IsWithinLimits limits
+        (kept_graph names (map vertex_of nodes.entries) (keys_of places.entries)) } by { Prim.hlevel props },
 }
 
 impl LabelGraph {

@@ -19,7 +19,11 @@ fn first_line(text: &str) -> (&str, &str) {
 }
 
 /// What lines of updates make of the empty graph. None of them is refused.
-pub fn graph_of(rt: &impl Abort, alloc: Global, text: &str) -> Result<LabelGraph, AllocError> {
+pub(crate) fn graph_of(
+    rt: &impl Abort,
+    alloc: Global,
+    text: &str,
+) -> Result<LabelGraph, AllocError> {
     let mut graph = LabelGraph::new(alloc, &Limits::standard());
     let mut rest = text;
     for _ in 0..text.len() {
@@ -59,7 +63,11 @@ fn make(graph: &mut LabelGraph, update: &Update) -> Result<Result<(), Code>, All
 }
 
 /// The patterns of a pattern file, which is accepted.
-pub fn patterns_of(rt: &impl Abort, alloc: Global, text: &str) -> Result<Patterns, AllocError> {
+pub(crate) fn patterns_of(
+    rt: &impl Abort,
+    alloc: Global,
+    text: &str,
+) -> Result<Patterns, AllocError> {
     let limits = Limits::standard();
     assert!(rt; limits.fair());
     let mut reader = PatternReader::new(alloc, &limits);
@@ -93,13 +101,13 @@ fn take_part(
 }
 
 /// The first pattern.
-pub fn first<'a>(rt: &impl Abort, patterns: &'a Patterns) -> &'a Pattern {
+pub(crate) fn first<'a>(rt: &impl Abort, patterns: &'a Patterns) -> &'a Pattern {
     assert!(rt; patterns.count() > 0);
     patterns.get(0)
 }
 
 /// The tree of the pattern that these cards of its edges and of its vertices choose.
-pub fn tree_of(
+pub(crate) fn tree_of(
     rt: &impl Abort,
     alloc: Global,
     pattern: &Pattern,
@@ -115,7 +123,7 @@ pub fn tree_of(
 }
 
 /// Compares maps with lists of ids.
-pub fn assert_maps(rt: &impl Abort, maps: &Maps, expected: &[&[u32]]) {
+pub(crate) fn assert_maps(rt: &impl Abort, maps: &Maps, expected: &[&[u32]]) {
     assert_eq!(rt; maps.len(), expected.len());
     for i in 0..expected.len() {
         assert_map(rt, maps.get(i), expected[i]);

@@ -80,7 +80,12 @@ pub const SAVE: Run = Run {
 };
 
 /// Runs, and compares how the run ended and what it wrote.
-pub fn play(rt: &impl Abort, alloc: Global, row: &Run, updates: &[u8]) -> Result<(), AllocError> {
+pub(crate) fn play(
+    rt: &impl Abort,
+    alloc: Global,
+    row: &Run,
+    updates: &[u8],
+) -> Result<(), AllocError> {
     let limits = limits_of(row.lower);
     assert!(rt; limits.fair());
     let words = words_of(alloc, row.words)?;
@@ -122,7 +127,7 @@ fn end_of(
 }
 
 /// Runs each row of a table.
-pub fn play_all(rt: &impl Abort, alloc: Global, rows: &[Run]) -> Result<(), AllocError> {
+pub(crate) fn play_all(rt: &impl Abort, alloc: Global, rows: &[Run]) -> Result<(), AllocError> {
     for row in rows {
         play(rt, alloc, row, row.updates.as_bytes())?;
     }
