@@ -72,12 +72,6 @@ fn count_right(
     Ok(steps.len())
 }
 
-/// The vertex 1 with the label `A`, and 2 with `B`.
-const TWO_VERTICES: [(Step, Result<(), Code>); 2] = [
-    (AddVertex(1, A), Ok(())),
-    (AddVertex(2, B), Ok(())),
-];
-
 /// A pattern's edge of the label `r`.
 fn pattern_edge(alloc: Global, tail: usize, head: usize) -> Result<PatternEdge, AllocError>
     ensures { IfOk result (λ e. e ≡ record { tail = tail; label = codes "r"; head = head }) }
@@ -122,45 +116,59 @@ fn finds(
     Ok(are_maps(&maps, lists))
 }
 
-#[test]
-fn finds_each_turn_of_a_triangle(rt: HostRuntime) -> Result<(), Fail> {
-    let alloc = rt.alloc();
-    let mut graph = PlainGraph::new(alloc, &Limits::standard());
-    let path = [
+/// What is done to the empty graph under these limits, and then all embeddings of the triangle in each mode.
+struct Case {
+    edges: u64,
+    labels: u64,
+    steps: &'static [(Step, Result<(), Code>)],
+    hom: &'static [[u32; 3]],
+    iso: &'static [[u32; 3]],
+}
+
+/// A limit that no case comes to.
+const ENOUGH: u64 = 65535;
+
+const PATH: Case = Case {
+    edges: ENOUGH,
+    labels: ENOUGH,
+    steps: &[
         (AddVertex(1, A), Ok(())),
         (AddVertex(2, B), Ok(())),
         (AddVertex(3, C), Ok(())),
         (AddEdge(1, 2), Ok(())),
         (AddEdge(2, 3), Ok(())),
-    ];
-    assert_eq!(rt; count_right(alloc, &mut graph, &path)?, 5);
-    assert!(rt; finds(alloc, &graph, Mode::Hom, &[])?);
-    assert_eq!(rt;
-        count_right(alloc, &mut graph, &[(AddEdge(3, 1), Ok(()))])?,
-        1
-    );
-    let turns = [[1, 2, 3], [2, 3, 1], [3, 1, 2]];
-    assert!(rt; finds(alloc, &graph, Mode::Hom, &turns)?);
-    assert!(rt; finds(alloc, &graph, Mode::Iso, &turns)?);
-    Ok(())
-}
+    ],
+    hom: &[],
+    iso: &[],
+};
 
-#[test]
-fn a_loop_is_a_triangle_only_where_ids_may_repeat(rt: HostRuntime) -> Result<(), Fail> {
-    let alloc = rt.alloc();
-    let mut graph = PlainGraph::new(alloc, &Limits::standard());
-    let steps = [(AddVertex(7, A), Ok(())), (AddEdge(7, 7), Ok(()))];
-    assert_eq!(rt; count_right(alloc, &mut graph, &steps)?, 2);
-    assert!(rt; finds(alloc, &graph, Mode::Hom, &[[7, 7, 7]])?);
-    assert!(rt; finds(alloc, &graph, Mode::Iso, &[])?);
-    Ok(())
-}
+const EACH_TURN_OF_A_TRIANGLE: Case = Case {
+    edges: ENOUGH,
+    labels: ENOUGH,
+    steps: &[
+        (AddVertex(1, A), Ok(())),
+        (AddVertex(2, B), Ok(())),
+        (AddVertex(3, C), Ok(())),
+        (AddEdge(1, 2), Ok(())),
+        (AddEdge(2, 3), Ok(())),
+        (AddEdge(3, 1), Ok(())),
+    ],
+    hom: &[[1, 2, 3], [2, 3, 1], [3, 1, 2]],
+    iso: &[[1, 2, 3], [2, 3, 1], [3, 1, 2]],
+};
 
-#[test]
-fn refuses_by_the_first_reason(rt: HostRuntime) -> Result<(), Fail> {
-    let alloc = rt.alloc();
-    let mut graph = PlainGraph::new(alloc, &Limits::standard());
-    let steps = [
+const LOOP_ONLY_WHERE_IDS_MAY_REPEAT: Case = Case {
+    edges: ENOUGH,
+    labels: ENOUGH,
+    steps: &[(AddVertex(7, A), Ok(())), (AddEdge(7, 7), Ok(()))],
+    hom: &[[7, 7, 7]],
+    iso: &[],
+};
+
+const FIRST_REASON: Case = Case {
+    edges: ENOUGH,
+    labels: ENOUGH,
+    steps: &[
         (AddVertex(1, A), Ok(())),
         (AddVertex(2, B), Ok(())),
         (AddVertex(2, A), Err(Code::Exists)),
@@ -174,45 +182,64 @@ fn refuses_by_the_first_reason(rt: HostRuntime) -> Result<(), Fail> {
         (DropEdge(1, 2), Ok(())),
         (DropVertex(2), Ok(())),
         (DropVertex(2), Err(Code::NoVertex)),
-    ];
-    assert_eq!(rt; count_right(alloc, &mut graph, &steps)?, 13);
-    Ok(())
-}
+    ],
+    hom: &[],
+    iso: &[],
+};
 
-#[test]
-fn one_edge_is_the_limit(rt: HostRuntime) -> Result<(), Fail> {
-    let alloc = rt.alloc();
-    let limits = Limits {
-        edges: 1,
-        ..Limits::standard()
-    };
-    let mut graph = PlainGraph::new(alloc, &limits);
-    let steps = [
+const ONE_EDGE_IS_THE_LIMIT: Case = Case {
+    edges: 1,
+    labels: ENOUGH,
+    steps: &[
+        (AddVertex(1, A), Ok(())),
+        (AddVertex(2, B), Ok(())),
         (AddEdge(1, 2), Ok(())),
         (AddEdge(2, 1), Err(Code::Full)),
         (AddEdge(1, 2), Err(Code::Exists)),
-    ];
-    assert_eq!(rt; count_right(alloc, &mut graph, &TWO_VERTICES)?, 2);
-    assert_eq!(rt; count_right(alloc, &mut graph, &steps)?, 3);
-    Ok(())
-}
+    ],
+    hom: &[],
+    iso: &[],
+};
 
-#[test]
-fn two_names_are_the_limit(rt: HostRuntime) -> Result<(), Fail> {
-    let alloc = rt.alloc();
-    let limits = Limits {
-        labels: 2,
-        ..Limits::standard()
-    };
-    let mut graph = PlainGraph::new(alloc, &limits);
-    let steps = [
+const TWO_NAMES_ARE_THE_LIMIT: Case = Case {
+    edges: ENOUGH,
+    labels: 2,
+    steps: &[
+        (AddVertex(1, A), Ok(())),
+        (AddVertex(2, B), Ok(())),
         (AddEdge(1, 2), Err(Code::Full)),
         (DropVertex(2), Ok(())),
         (AddVertex(3, C), Ok(())),
         (AddEdge(1, 3), Err(Code::Full)),
         (AddVertex(2, A), Ok(())),
-    ];
-    assert_eq!(rt; count_right(alloc, &mut graph, &TWO_VERTICES)?, 2);
-    assert_eq!(rt; count_right(alloc, &mut graph, &steps)?, 5);
+    ],
+    hom: &[],
+    iso: &[],
+};
+
+const CASES: [Case; 6] = [
+    PATH,
+    EACH_TURN_OF_A_TRIANGLE,
+    LOOP_ONLY_WHERE_IDS_MAY_REPEAT,
+    FIRST_REASON,
+    ONE_EDGE_IS_THE_LIMIT,
+    TWO_NAMES_ARE_THE_LIMIT,
+];
+
+#[test]
+fn changes_and_their_triangles(rt: HostRuntime) -> Result<(), Fail> {
+    let alloc = rt.alloc();
+    for (i, case) in CASES.iter().enumerate() {
+        let limits = Limits {
+            edges: case.edges,
+            labels: case.labels,
+            ..Limits::standard()
+        };
+        let mut graph = PlainGraph::new(alloc, &limits);
+        let right = count_right(alloc, &mut graph, case.steps)?;
+        assert_eq!(rt; right, case.steps.len(), "case {i}");
+        assert!(rt; finds(alloc, &graph, Mode::Hom, case.hom)?, "case {i}");
+        assert!(rt; finds(alloc, &graph, Mode::Iso, case.iso)?, "case {i}");
+    }
     Ok(())
 }
