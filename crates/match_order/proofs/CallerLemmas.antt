@@ -40,6 +40,7 @@ module _ (t : QueryTree) (o : SearchOrder) (whole : IsOrderOf t o) where
 
   -- ---- each vertex once
 
+  -- each vertex of the order is one of the tree
   pub vertex_within : (j : ℕ) → j < length (vertices o) → slice_index (vertices o) j < length t.links
   vertex_within j h = whole.inside j 0 h
 
@@ -47,6 +48,7 @@ module _ (t : QueryTree) (o : SearchOrder) (whole : IsOrderOf t o) where
   pub place_of_vertex : (u : ℕ) → u < length t.links → (j : ℕ) × (j < length (vertices o)) × (slice_index (vertices o) j ≡ u)
   place_of_vertex u h = let c = whole.every u h in (c.0, c.1, default_zero (vertices o) c.0 u c.1 c.2)
 
+  -- no vertex is there twice
   pub vertices_apart : (i j : ℕ) → i < j → j < length (vertices o) → slice_index (vertices o) i ≢ slice_index (vertices o) j
   vertices_apart i j low high = whole.distinct i j 0 low high
 

@@ -4,4 +4,3 @@ pub mod SpanLemmas
 pub mod WholeLemmas
 pub mod CallerLemmas
 pub mod LinkLemmas
-pub mod PatternLemmas

@@ -111,6 +111,7 @@ module _ (t : QueryTree) (is : IsTree t) (o : SearchOrder) (whole : IsOrderOf t 
   one_anchor n i k inside old hi hk (inl a) (inr b) = absurd (omega (arith, deeper t is (vertex i) (vertex (suc n)) a, deeper t is (vertex (suc n)) (vertex k) b, ap (λ j. depth t (vertex j)) (child_on_top n inside old i hi a), old.least k hk))
   one_anchor n i k inside old hi hk (inr a) (inl b) = absurd (omega (arith, deeper t is (vertex k) (vertex (suc n)) b, deeper t is (vertex (suc n)) (vertex i) a, ap (λ j. depth t (vertex j)) (child_on_top n inside old k hk b), old.least i hi))
 
+  -- a neighbour that stands before a vertex is its anchor
   pub anchor_is : (j k : ℕ) → k < j → j < length (vertices o) → are_neighbours t (vertex j) (vertex k) ≡ true → anchor j ≡ vertex k
   anchor_is zero k low high near = absurd (omega arith)
   anchor_is (suc n) k low high near = by (anchor_before t o whole (suc n) (omega arith) high)
@@ -126,6 +127,7 @@ module _ (t : QueryTree) (is : IsTree t) (o : SearchOrder) (whole : IsOrderOf t 
   abbrev Takes : ℕ → ℕ → ℕ → Type 0
   Takes j u p = ((vertex j ≡ u) × (anchor j ≡ p)) ⊎ ((vertex j ≡ p) × (anchor j ≡ u))
 
+  -- each link is taken by some place of the order
   pub link_taken : (u : ℕ) (l : TreeLink) → link_at t u ≡ Some l → (j : ℕ) × (1 ≤ j) × (j < length (vertices o)) × Takes j u l.parent
   link_taken u l e = by (place_of_vertex t o whole u (link_within t u l e)) (place_of_vertex t o whole l.parent (parent_within t is u l e))
     where

@@ -10,12 +10,15 @@ use Rattle.match_order.specs.Steps.{next_place, with_place}
 -- ---- one place more
 
 module _ (o : SearchOrder) (p : Place) where
+  -- one more place has one more vertex, at the end
   pub vertices_more : vertices (with_place o (Some p)) ≡ vertices o ++ p.vertex ∷ []
   vertices_more = ap (λ (l : List ℕ). o.start ∷ l) (map-append (λ (q : Place). q.vertex) o.places (p ∷ []))
 
+  -- and one more anchor, at the end
   pub anchors_more : anchors (with_place o (Some p)) ≡ anchors o ++ p.anchor ∷ []
   anchors_more = map-append (λ (q : Place). q.anchor) o.places (p ∷ [])
 
+  -- its vertex is the latest
   pub latest_more : latest_first (with_place o (Some p)) ≡ p.vertex ∷ latest_first o
   latest_more = ap reverse vertices_more ∙ reverse-append (vertices o) (p.vertex ∷ [])
 
@@ -43,6 +46,7 @@ module _ (t : QueryTree) (live : List ℕ) where
   abbrev with_places : SearchOrder → List Place → SearchOrder
   with_places o ps = record { start = o.start; places = ps }
 
+  -- one step less is left once the next place is there
   pub completed_more : (k : ℕ) (o : SearchOrder) → completed (suc k) t live o ≡ completed k t live (with_place o (next_place t live (latest_first o)))
   completed_more k o = by (least_of (latest_first o)) refl
     where
@@ -57,6 +61,7 @@ module _ (t : QueryTree) (live : List ℕ) where
           ∙ ap (λ (l : List ℕ). with_places o ((o.places ++ p ∷ []) ++ places_after k t live l)) (sym (latest_more o p))
           ∙ ap (λ n. completed k t live (with_vertex o n)) (sym e)
 
+  -- where no step is left, nothing is added
   pub completed_none : (o : SearchOrder) → completed 0 t live o ≡ o
   completed_none o = ap (with_places o) (append-nil o.places)
 
@@ -70,6 +75,7 @@ module _ (t : QueryTree) (live : List ℕ) where
       suc_left : (m j : ℕ) → j < m → suc (m - (j + 1)) ≡ m - j
       suc_left m j l = omega arith
 
+  -- nor where no more steps are left than were made
   pub left_none : (n k : ℕ) (o : SearchOrder) → n ≤ k → completed (n - k) t live o ≡ o
   left_none n k o h =
       ap (λ j. completed j t live o) (none_left n k h)

@@ -63,5 +63,6 @@ module _ (t : QueryTree) (is : IsTree t) (before : List ℕ) (none : open_vertic
           closed u l.0.parent h (rest l.0.parent (parent_within t is u l.0 l.1) (omega (arith, depth-below t is u l.0 l.1)) root)
           (or_right (is_child t u l.0.parent) (is_child t l.0.parent u) (is_child_of t u l.0 l.1))
 
+  -- where one vertex is placed, and with each its neighbours, all are placed
   pub all_placed : (w : ℕ) → w < length t.links → placed w ≡ true → (u : ℕ) → u < length t.links → placed u ≡ true
   all_placed w inside held u h = down (depth t u) u h (omega arith) (up (depth t w) w inside (omega arith) held)

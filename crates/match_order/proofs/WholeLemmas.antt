@@ -124,6 +124,7 @@ module _ (t : QueryTree) (o : SearchOrder) (part : IsPartOf t o) (u w : ℕ) (in
         near = ap (λ v. are_neighbours t v (slice_index (anchors longer) j)) last ∙ ap (are_neighbours t u) at ∙ near;
       }
 
+  -- with one more vertex beside its anchor it is still part of an order
   pub part_more : IsPartOf t longer
   part_more = record {
     inside = subst (All (λ v. v < length t.links)) (sym (vertices_more o place)) (All-push (λ v. v < length t.links) (vertices o) u part.inside inside);
@@ -169,6 +170,7 @@ module _ (t : QueryTree) (is : IsTree t) (live : List ℕ) where
         subst (λ n. IsPartOf t (with_place o (Some (record { vertex = u; anchor = unwrap_or n 0 })))) (sym w.1)
         (part_more t o part u w.0 h apart (in_reverse (vertices o) w.0 w.2) w.3)
 
+  -- one step further, one more vertex is there
   pub after_more : (k : ℕ) (o : SearchOrder) → IsAfter k t o → IsAfter (suc k) t (with_place o (next_place t live (latest_first o)))
   after_more k o old = by (least (slice_index live) (open_vertices t (latest_first o))) refl
     where

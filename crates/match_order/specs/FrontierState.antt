@@ -1,23 +1,23 @@
 -- The state of a `Frontier`: what it keeps while an order grows.
-use Rattle.std.specs.Prelude.{◌≡◌, ◌<◌, ℕ, Bool, false, ◌==◌, ◌&&◌, not, List, length, find}
+use Rattle.std.specs.Prelude.{◌≡◌, ◌<◌, ◌≤◌, ℕ, Bool, false, ◌==◌, ◌&&◌, not, List, length, find}
 use Rattle.std.specs.Prelude.{Option, None, is_some, slice_index_or}
 use Rattle.std.specs.List.{list_any}
 use Rattle.flux_model.specs.Tree.{QueryTree}
 use Rattle.flux_model.specs.Order.{are_neighbours}
 use Rattle.match_order.specs.declared.frontier.Frontier.{Frontier}
 
--- it keeps marks of n vertices
+-- it has room for the marks of n vertices
 pub record HasCount (n : ℕ) (f : Frontier) : Type 0 where
-  pub placed : length f.placed.items ≡ n
-  pub anchors : length f.anchors.items ≡ n
+  pub placed : n ≤ length f.placed
+  pub anchors : n ≤ length f.anchors
 
 -- no vertex past the end is placed
 abbrev pub is_placed : Frontier → ℕ → Bool
-is_placed f u = slice_index_or f.placed.items u false
+is_placed f u = slice_index_or f.placed u false
 
 -- no vertex past the end has an anchor
 abbrev pub anchor_of : Frontier → ℕ → Option ℕ
-anchor_of f u = slice_index_or f.anchors.items u None
+anchor_of f u = slice_index_or f.anchors u None
 
 -- it has an anchor and is not placed
 abbrev pub is_open : Frontier → ℕ → Bool

@@ -1,5 +1,5 @@
 //! `Frontier`: how far an order has come.
-ghost use Rattle.std.specs.Prelude.{◌≡◌, ◌<◌, ℕ, List, [], ◌∷◌, IfOk, IfSome, length};
+ghost use Rattle.std.specs.Prelude.{◌≡◌, ◌<◌, ◌≤◌, ℕ, List, [], ◌∷◌, IfSome, length};
 ghost use Rattle.flux_model.specs.Tree.{QueryTree as Tree};
 ghost use Rattle.flux_model.specs.Order.{are_neighbours};
 ghost use Rattle.match_order.specs.FrontierState.{AreMarks, HasCount, is_open};
@@ -8,23 +8,26 @@ ghost use Rattle.match_order.specs.Steps.{next_place};
 use crate::place::Place;
 use query_tree::QueryTree;
 use query_tree::numbers::least_by;
-use std::alloc::{AllocError, Global};
+
+/// A pattern has at most so many vertices, and its tree as many.
+pub const MOST: usize = 32;
 
 /// For each vertex of a tree whether it is placed, and the latest placed vertex that is its neighbour.
 #[derive(Drop)]
 pub struct Frontier {
-    placed: Vec<bool>,
-    anchors: Vec<Option<usize>>,
+    placed: [bool; MOST],
+    anchors: [Option<usize>; MOST],
 }
 
 impl Frontier {
-    /// None of `count` vertices is placed.
-    pub fn new(alloc: Global, count: usize) -> Result<Frontier, AllocError>
-        ensures { IfOk result (λ f. (t : Tree) → length t.links ≡ count → AreMarks t [] f) }
+    /// No vertex is placed.
+    pub fn new() -> Frontier
+        ensures { (t : Tree) → length t.links ≤ 32 → AreMarks t [] result }
     {
-        let placed = vec![in alloc; false; count]?;
-        let anchors = vec![in alloc; None; count]?;
-        Ok(Frontier { placed, anchors })
+        Frontier {
+            placed: [false; MOST],
+            anchors: [None; MOST],
+        }
     }
 
     /// Places vertex `u`, which comes to be the anchor of its neighbours.
@@ -47,7 +50,8 @@ impl Frontier {
     /// lowest.
     pub fn next(&self, live: &[u64]) -> Option<Place>
         requires { HasCount (length live.now) self.now }
-        ensures next { (t : Tree) (before : List ℕ) → AreMarks t before self.now → result ≡ next_place t live.now before }
+        ensures next { (t : Tree) (before : List ℕ) → AreMarks t before self.now → length live.now ≡ length t.links
+            → result ≡ next_place t live.now before }
         ensures within { IfSome result (λ place. place.vertex < length live.now) }
     {
         let vertex = least_by(live, |u| self.is_open(u))?;
@@ -57,8 +61,8 @@ impl Frontier {
 
     /// Whether vertex `u` has an anchor and is not placed.
     fn is_open(&self, u: usize) -> bool
-        requires placed { u < length self.now.placed.items }
-        requires anchors { u < length self.now.anchors.items }
+        requires placed { u < length self.now.placed }
+        requires anchors { u < length self.now.anchors }
         ensures { result ≡ is_open self.now u }
     {
         !self.placed[u] && self.anchors[u].is_some()

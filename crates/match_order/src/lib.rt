@@ -6,6 +6,8 @@
 //! - `place`: a vertex of the order, with its anchor.
 //! - `frontier`: which vertices are placed, and which could be next.
 //! - `search_order`: `SearchOrder`, the whole order.
+//!
+//! None of these calls takes memory.
 #![tactic(auto)]
 
 mod frontier;

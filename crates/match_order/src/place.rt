@@ -2,7 +2,7 @@
 use std::marker::Model;
 
 /// A vertex of an order, and its anchor: a vertex before it that is its neighbour in the tree.
-#[derive(Drop)]
+#[derive(Drop, Default)]
 pub struct Place {
     pub vertex: usize,
     pub anchor: usize,

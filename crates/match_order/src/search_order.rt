@@ -1,15 +1,15 @@
 //! `SearchOrder`: the order in which a search gives ids to the vertices of a pattern.
-ghost use Rattle.std.specs.Prelude.{◌≡◌, ◌-◌, ◌<◌, ◌≤◌, IfOk, Some, [], length, slice_index};
+ghost use Rattle.std.specs.Prelude.{◌≡◌, ◌+◌, ◌-◌, ◌<◌, ◌≤◌, Some, [], length, slice_index};
 ghost use Rattle.flux_model.specs.Tree.{IsTree};
 ghost use Rattle.flux_model.specs.Order.{search_order};
 ghost use Rattle.match_order.specs.Whole.{IsOrderOf, vertices, anchors, latest_first};
 ghost use Rattle.match_order.specs.FrontierState.{AreMarks};
 ghost use Rattle.match_order.specs.Steps.{next_place, with_place};
 
-use crate::frontier::Frontier;
+use crate::frontier::{Frontier, MOST};
 use crate::place::Place;
+use arrayvec::ArrayVec;
 use query_tree::QueryTree;
-use std::alloc::{AllocError, Global};
 use std::marker::Model;
 
 /// The order in which a search gives ids to the vertices of a pattern: the vertex that it starts at, and then the others,
@@ -17,7 +17,7 @@ use std::marker::Model;
 #[derive(Drop)]
 pub struct SearchOrder {
     start: usize,
-    places: Vec<Place>,
+    places: ArrayVec<Place, MOST>,
 }
 
 impl Model for SearchOrder {
@@ -43,7 +43,10 @@ impl SearchOrder {
     {
         match j {
             0 => self.start,
-            _ => self.places[j - 1].vertex,
+            _ => {
+                let place = &self.places[j - 1];
+                place.vertex
+            }
         }
     }
 
@@ -53,15 +56,16 @@ impl SearchOrder {
         requires within { j < length (vertices self.now) }
         ensures { result ≡ slice_index (anchors self.now) (j - 1) }
     {
-        self.places[j - 1].anchor
+        let place = &self.places[j - 1];
+        place.anchor
     }
 
     /// One more place, behind the others.
-    fn push(&mut self, place: Place) -> Result<(), AllocError>
-        ensures { IfOk result (λ _. self.new ≡ with_place self.old (Some place)) }
+    fn push(&mut self, place: Place)
+        requires { length self.old.places < 32 }
+        ensures { self.new ≡ with_place self.old (Some place) }
     {
-        self.places.push(place)?;
-        Ok(())
+        self.places.push(place);
     }
 }
 
@@ -69,25 +73,21 @@ impl SearchOrder {
 ///
 /// `live` has for each vertex how many candidates it has. Of the vertices that are not placed and have a placed neighbour in
 /// the tree, the one with the fewest candidates comes next, of equals the lowest. `start` has to be below the tree's
-/// `vertex_count`, and `live` has to be as long. Fails only for want of memory.
-pub fn order(
-    alloc: Global,
-    tree: &QueryTree,
-    start: usize,
-    live: &[u64],
-) -> Result<SearchOrder, AllocError>
+/// `vertex_count`, which is at most 32, and `live` has to be as long. It takes no memory.
+pub fn order(tree: &QueryTree, start: usize, live: &[u64]) -> SearchOrder
+    requires few { length tree.now.links ≤ 32 }
     requires start { start < length tree.now.links }
     requires live { length live.now ≡ length tree.now.links }
-    ensures order { IfOk result (λ order. order ≡ search_order tree.now start live.now) }
-    ensures all { IfOk result (λ order. IsOrderOf tree.now order) }
+    ensures order { result ≡ search_order tree.now start live.now }
+    ensures all { IsOrderOf tree.now result }
 {
     // For the proof: every vertex hangs from the root, so that none is left out.
     let _root = tree.root();
-    let mut growth = Growth::new(alloc, tree, start)?;
+    let mut growth = Growth::new(tree, start);
     for _ in 0..tree.vertex_count() {
-        growth.place_next(tree, live)?;
+        growth.place_next(tree, live);
     }
-    Ok(growth.order)
+    growth.order
 }
 
 /// An order that grows by one place at a time.
@@ -99,31 +99,32 @@ struct Growth {
 
 impl Growth {
     /// The start alone is placed.
-    fn new(alloc: Global, tree: &QueryTree, start: usize) -> Result<Growth, AllocError>
-        requires { start < length tree.now.links }
-        ensures order { IfOk result (λ g. g.order ≡ record { start = start; places = [] }) }
-        ensures marks { IfOk result (λ g. AreMarks tree.now (latest_first g.order) g.frontier) }
+    fn new(tree: &QueryTree, start: usize) -> Growth
+        requires few { length tree.now.links ≤ 32 }
+        requires start { start < length tree.now.links }
+        ensures order { result.order ≡ record { start = start; places = [] } }
+        ensures marks { AreMarks tree.now (latest_first result.order) result.frontier }
     {
-        let count = tree.vertex_count();
-        let mut frontier = Frontier::new(alloc, count)?;
+        let mut frontier = Frontier::new();
         frontier.place(tree, start);
-        let places = Vec::with_capacity(alloc, count)?;
+        let places = ArrayVec::new();
         let order = SearchOrder { start, places };
-        Ok(Growth { order, frontier })
+        Growth { order, frontier }
     }
 
     /// Places the next vertex; nothing where none is left.
-    fn place_next(&mut self, tree: &QueryTree, live: &[u64]) -> Result<(), AllocError>
+    fn place_next(&mut self, tree: &QueryTree, live: &[u64])
+        requires room { length self.old.order.places < 32 }
         requires live { length live.now ≡ length tree.now.links }
         requires marks { AreMarks tree.now (latest_first self.old.order) self.old.frontier }
         ensures order { let next = next_place tree.now live.now (latest_first self.old.order) in
-            IfOk result (λ _. self.new.order ≡ with_place self.old.order next) }
-        ensures marks { IfOk result (λ _. AreMarks tree.now (latest_first self.new.order) self.new.frontier) }
+            self.new.order ≡ with_place self.old.order next }
+        ensures room { length self.new.order.places ≤ length self.old.order.places + 1 }
+        ensures marks { AreMarks tree.now (latest_first self.new.order) self.new.frontier }
     {
         if let Some(place) = self.frontier.next(live) {
             self.frontier.place(tree, place.vertex);
-            self.order.push(place)?;
+            self.order.push(place);
         }
-        Ok(())
     }
 }

@@ -10,8 +10,9 @@ loop-preserved c =
     let t = c.args.tree.now in
     let live = c.args.live.now in
     record {
-      marks = c.in_ok-place_next.ensures.marks;
-      left = left_more t live (length t.links) c.loop.counter c.loop.growth.order c.place_next.new.self.order (omega (arith, c.loop-test.true, c.vertex_count-end.ensures)) c.in_ok-place_next.ensures.order ∙ c.loop.invariant.left;
+      room = omega (arith, c.place_next.ensures.room, c.loop.invariant.room);
+      marks = c.place_next.ensures.marks;
+      left = left_more t live (length t.links) c.loop.counter c.loop.growth.order c.place_next.new.self.order (omega (arith, c.loop-test.true, c.vertex_count-end.ensures)) c.place_next.ensures.order ∙ c.loop.invariant.left;
     }
 
 pub returns-clause-all : goal.returns-clause-all

@@ -1,4 +1,4 @@
-use Rattle.std.proofs.Common.{◌∙◌, Some, refl, sym, set, length-set, arith}
+use Rattle.std.proofs.Common.{Some, refl, sym, set, length-set, arith}
 use Rattle.match_order.proofs.FrontierLemmas.{placed_near, placed_far, placed_last}
 use Rattle.match_order.proofs.frontier.Frontier.place.Goals as goal
 use Rattle.match_order.proofs.frontier.Frontier.place.Goals.{then-are_neighbours, else-are_neighbours}
@@ -11,12 +11,12 @@ loop-w-preserved c =
     let f = c.loop-w.self in
     elim c.if-are_neighbours.branch [
       | then-are_neighbours b ↦ rw b.self-is (record {
-        size = record { placed = c.loop-w.invariant.size.placed; anchors = length-set f.anchors.items w (Some u) ∙ c.loop-w.invariant.size.anchors };
-        part = λ before marks. placed_near t before u w f.placed.items f.anchors.items (c.loop-w.invariant.part before marks) (set f.anchors.items w (Some u)) (omega (arith, c.loop-w-test.true, c.vertex_count-w-end.ensures, c.loop-w.invariant.size.anchors)) (sym b.if-are_neighbours.ensures) refl;
+        size = record { placed = c.loop-w.invariant.size.placed; anchors = omega (arith, length-set f.anchors w (Some u), c.loop-w.invariant.size.anchors) };
+        part = λ before marks. placed_near t before u w f.placed f.anchors (c.loop-w.invariant.part before marks) (set f.anchors w (Some u)) (omega (arith, c.loop-w-test.true, c.vertex_count-w-end.ensures, c.loop-w.invariant.size.anchors)) (sym b.if-are_neighbours.ensures) refl;
       })
       | else-are_neighbours b ↦ rw b.self-is (record {
         size = c.loop-w.invariant.size;
-        part = λ before marks. placed_far t before u w f.placed.items f.anchors.items (c.loop-w.invariant.part before marks) (sym b.if-are_neighbours.ensures);
+        part = λ before marks. placed_far t before u w f.placed f.anchors (c.loop-w.invariant.part before marks) (sym b.if-are_neighbours.ensures);
       })
     ]
 

@@ -7,5 +7,5 @@ use Rattle.match_order.proofs.frontier.Frontier.place.Given as goal
 abbrev pub invariant-loop-w : goal.invariant-loop-w
 invariant-loop-w l = record {
   size : HasCount (length l.tree.links) l.self;
-  part : (before : List ℕ) → AreMarks l.tree before l.fn.self → ArePartMarks l.tree before l.u l.w l.self.placed.items l.self.anchors.items;
+  part : (before : List ℕ) → AreMarks l.tree before l.fn.self → ArePartMarks l.tree before l.u l.w l.self.placed l.self.anchors;
 }

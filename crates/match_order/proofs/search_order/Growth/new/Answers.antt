@@ -7,5 +7,5 @@ use Rattle.match_order.proofs.search_order.Growth.new.Goals as goal
 pub returns-clause-marks : goal.returns-clause-marks
 returns-clause-marks c =
     let t = c.args.tree.now in
-    subst (λ (ps : List Place). AreMarks t (latest_first (record { start = c.args.start; places = ps })) c.place.new.self) (sym c.in_ok-places.ensures.items)
-    (c.place.ensures [] (c.in_ok-frontier.ensures t (sym c.vertex_count-count.ensures)))
+    subst (λ (ps : List Place). AreMarks t (latest_first (record { start = c.args.start; places = ps })) c.place.new.self) (sym c.new-places.ensures)
+    (c.place.ensures [] (c.new-frontier.ensures t c.requires.few))
