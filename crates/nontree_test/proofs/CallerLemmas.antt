@@ -35,10 +35,12 @@ distinct_at_start : (n : ℕ) → are_distinct_by same_id (replicate n None) ≡
 distinct_at_start zero = refl
 distinct_at_start (suc n) = and_from _ _ (not_from_false _ (nothing_same (replicate n None))) (distinct_at_start n)
 
+-- no two of no ids are the same
 pub keeps_mode_at_start : (mode : Mode) (n : ℕ) → keeps_mode_where_given mode (replicate n None) ≡ true
 keeps_mode_at_start Hom n = refl
 keeps_mode_at_start Iso n = distinct_at_start n
 
+-- where no id is given, no edge is tested
 pub keeps_non_tree_at_start : (q : PatternGraph) (t : QueryTree) (g : Graph) (n : ℕ) → keeps_non_tree q t g (replicate n None) ≡ true
 keeps_non_tree_at_start q t g n =
     list_all-from_AllPass (λ i. stands_where_given g (replicate n None) (edge_at q i)) (non_tree t) (λ k d h.
@@ -110,6 +112,7 @@ distinct_at_end [] = refl
 distinct_at_end (x ∷ ids) =
     ap (λ b. not b && are_distinct_by same_id (map Some ids)) (absent_at_end x ids) ∙ ap (λ b. not (list_any (nat_eq x) ids) && b) (distinct_at_end ids)
 
+-- where all ids are given, the mode is kept exactly where the ids keep it
 pub keeps_mode_at_end : (mode : Mode) (ids : List ℕ) → keeps_mode_where_given mode (map Some ids) ≡ keeps_mode mode ids
 keeps_mode_at_end Hom ids = refl
 keeps_mode_at_end Iso ids = distinct_at_end ids
@@ -117,6 +120,7 @@ keeps_mode_at_end Iso ids = distinct_at_end ids
 id_at_end : (ids : List ℕ) (u : ℕ) → u < length ids → id_of (map Some ids) u ≡ Some (slice_index ids u)
 id_at_end ids u h = get_or-map Some ids u 0 None h
 
+-- where all ids are given, an edge stands exactly where its triple does
 pub stands_at_end : (g : Graph) (ids : List ℕ) (e : PatternEdge) → HasEnds (length ids) e → stands_where_given g (map Some ids) e ≡ has_triple g (image ids e)
 stands_at_end g ids e ends =
     ap (λ o. stands_between g e.label o (id_of (map Some ids) e.head)) (id_at_end ids e.tail ends.0)
@@ -162,6 +166,7 @@ module _ (q : PatternGraph) (t : QueryTree) (g : Graph) (ids : List ℕ) (is : I
           let stands = passes_each (λ k. stands_where_given g (map Some ids) (edge_at q k)) (λ k. not (has_edge t k)) 0 t.edge_count i kept (omega arith) (omega (arith, belongs.edges)) (not_from_false _ e) in
           sym (stands_at_end g ids (edge_at q i) (ends_at i h)) ∙ stands
 
+  -- where all ids are given, each edge has its triple
   pub keeps_edges_at_end : keeps_edges q g ids ≡ true
   keeps_edges_at_end =
       list_all-from_AllPass (λ e. has_triple g (image ids e)) q.edges (All-from_get_or (λ e. has_triple g (image ids e) ≡ true) q.edges (record { tail = 0; label = []; head = 0 }) edge_stands)

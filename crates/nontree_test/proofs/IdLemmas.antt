@@ -14,5 +14,6 @@ any_from p at d a (x ∷ xs) each =
     let same : a + suc k ≡ a + 1 + k = omega arith in
     ap at (sym same) ∙ next))
 
+-- some element passes exactly where one passes at some place
 pub any_by_place : {X : Type 0} (p : X → Bool) (d : X) (xs : List X) → list_any (λ k. p (get_or xs k d)) (range_with_len 0 (length xs)) ≡ list_any p xs
 any_by_place p d xs = any_from p (λ k. get_or xs k d) d 0 xs (λ k h. ap (λ n. get_or xs n d) (omega arith))

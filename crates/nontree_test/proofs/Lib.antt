@@ -1,3 +1,4 @@
 pub mod IdLemmas
 pub mod NonTreeLemmas
 pub mod CallerLemmas
+pub mod SentLemmas

@@ -25,6 +25,7 @@ pub told_of_place : (q : PatternGraph) (test : PatternEdge → Bool) (numbers ot
 told_of_place q test numbers others k e told b same there is answer =
     ap (λ (l : List ℕ). test (edge_at q (get_or l k 0))) (sym same) ∙ ap test (get_or_from_slice_get q.edges (get_or numbers k 0) e _ there) ∙ sym is ∙ answer
 
+-- a place in a list is one in a list that is the same
 pub place_within : (numbers others : List ℕ) (k : ℕ) → numbers ≡ others → k < length numbers → k < length others
 place_within numbers others k same h = omega (arith, h, ap (λ (l : List ℕ). length l) same)
 

@@ -70,7 +70,7 @@ fn edge_joins<G: ReadGraph<L>, L: Ledger>(
 }
 
 /// Whether the triple of these ends stands with the label, which has this number.
-fn stands<G: ReadGraph<L>, L: Ledger>(
+pub fn stands<G: ReadGraph<L>, L: Ledger>(
     graph: &G,
     _label: &Text,
     number: Option<u32>,
@@ -90,7 +90,7 @@ fn stands<G: ReadGraph<L>, L: Ledger>(
 }
 
 /// The id of vertex `u`, if it has one, where `w` has `x`.
-fn id_with(partial: &Partial, w: usize, x: u32, u: usize) -> Option<u32>
+pub(crate) fn id_with(partial: &Partial, w: usize, x: u32, u: usize) -> Option<u32>
     requires { u < length partial.now }
     ensures { result ≡ id_of (with_id partial.now w x) u }
 {

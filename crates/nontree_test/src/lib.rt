@@ -5,14 +5,17 @@
 //! - `numbers`: `label_numbers`, the numbers that a store has for the labels of a pattern's edges.
 //! - `edges`: `joins`, whether the edges that the tree leaves out stand under the ids.
 //! - `ids`: `free`, whether the mode lets the candidate be given.
+//! - `sent`: `earlier`, whether an edge of a lower number would be sent to a triple.
 //!
-//! Only `label_numbers` takes memory.
+//! None of these calls takes memory.
 #![tactic(auto)]
 
 mod edges;
 mod ids;
 mod numbers;
+mod sent;
 
-pub use edges::joins;
+pub use edges::{joins, stands};
 pub use ids::free;
 pub use numbers::label_numbers;
+pub use sent::earlier;

@@ -6,6 +6,6 @@ use Rattle.nontree_test.proofs.numbers.label_numbers.Given as goal
 abbrev pub invariant-loop-i : goal.invariant-loop-i
 invariant-loop-i g l =
     record {
-      sized : length l.numbers.items ≡ l.i;
-      each : AreNumbered (g.G.HoldGraph.label_text l.graph) (g.G.HoldGraph.graph l.graph) l.pattern l.i l.numbers.items;
+      sized : length l.numbers ≡ 64;
+      each : AreNumbered (g.G.HoldGraph.label_text l.graph) (g.G.HoldGraph.graph l.graph) l.pattern l.i l.numbers;
     }
