@@ -57,9 +57,7 @@ impl PatternIndex {
             → steps.new ≤ steps.old + no_dead_end_cost pattern.now self.now.tree (G.graph graph.now)) }
     {
         let mut maps = Maps::new(alloc);
-        all(
-            alloc, pattern, &self.tree, &self.dcg, graph, &mut maps, steps,
-        )?;
+        all(pattern, &self.tree, &self.dcg, graph, &mut maps, steps)?;
         Ok(maps)
     }
 }

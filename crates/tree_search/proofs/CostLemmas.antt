@@ -1,16 +1,16 @@
 -- What a search without dead ends costs.
-use Rattle.std.proofs.Common.{◌≡◌, ℕ, suc, ◌+◌, ◌-◌, ◌*◌, ◌<◌, ◌≤◌, Bool, true, false, cond, ◌==◌, List, [], ◌∷◌, drop, length, slice_index, Option, Some, None, inl, inr, refl, sym, ap, ◌∙◌, subst, arith}
-use Rattle.std.specs.Prelude.{slice_set, IsPermutation}
-use Rattle.std.specs.List.{sum_by, range_with_len}
+use Rattle.std.proofs.Common.{◌≡◌, ℕ, zero, suc, ◌+◌, ◌-◌, ◌*◌, ◌<◌, ◌≤◌, Bool, true, false, cond, ◌==◌, nat_eq, List, [], ◌∷◌, drop, length, slice_index, Option, Some, None, inl, inr, refl, sym, ap, ◌∙◌, subst, arith}
+use Rattle.std.specs.Prelude.{◌⊎◌, slice_set, IsPermutation}
+use Rattle.std.specs.List.{IsDistinct, sum_by, range_with_len}
 use Rattle.std.proofs.Math.Nat.{mul-add, mul-suc, add-mul, mul-le-mul_left}
 use Rattle.std.proofs.Math.Seq.{drop-cons}
-use Rattle.std.proofs.lemmas.Bool.{both_ways}
-use Rattle.std.proofs.lemmas.List.Sorted.{sum_by-IsPermutation, length_permutation}
+use Rattle.std.proofs.lemmas.Bool.{cases_eq, both_ways}
+use Rattle.std.proofs.lemmas.List.Sorted.{sum_by-IsPermutation}
 use Rattle.std.proofs.lemmas.List.Sums.{sum_by-cons, sum_by-append, length-filter}
 use Rattle.std.proofs.lemmas.Option.{get_or_from_slice_get, slice_get-get_or, slice_get_within}
 use Rattle.flux_model.specs.Costs.{degree, row_cost, embedding_cost}
 use Rattle.flux_model.specs.Exact.{StateRows}
-use Rattle.flux_model.specs.Graph.{Graph}
+use Rattle.flux_model.specs.Graph.{Graph, has_triple}
 use Rattle.flux_model.specs.Order.{SearchOrder}
 use Rattle.flux_model.specs.Partial.{id_of, with_id}
 use Rattle.flux_model.specs.Pattern.{PatternGraph, vertex_count}
@@ -22,11 +22,12 @@ use Rattle.flux_model.specs.Members.{In, AreOnce}
 use Rattle.flux_model.proofs.MemberLemmas.{once_permutation, once_by_place, in_by_place, place_of, range_in, in_range, range_once}
 use Rattle.match_order.specs.Whole.{vertices}
 use Rattle.match_order.proofs.CallerLemmas.{place_of_vertex, vertex_within, one_place}
-use Rattle.graph_rows.specs.Directions.{whole_row, ends_of}
+use Rattle.graph_rows.specs.Directions.{whole_row, triple_of}
 use Rattle.graph_rows.specs.declared.direction.Direction.{Direction}
 use Rattle.graph_rows.specs.declared.direction.Direction.TheVariants.{Out, In as Inward}
 use Rattle.tree_search.specs.Given.{IsReady, IsGiven, IsRowAt, nth_vertex, nth_anchor, may_have}
 use Rattle.tree_search.specs.Members.{members_from, members_over}
+use Rattle.tree_search.specs.declared.aim.Aim.TheVariants.{All}
 use Rattle.tree_search.specs.SearchCosts.{MeetsNoDeadEnd, test_cost, cost_from, members_cost}
 use Rattle.tree_search.proofs.MemberLemmas.{given_id}
 use Rattle.tree_search.proofs.PassLemmas.{member}
@@ -44,6 +45,7 @@ sum_in f [] x i = absurd i
 sum_in f (y ∷ ys) x (inl e) = let same : f x ≡ f y = ap f e in omega (arith, sum_by-cons f y ys, same)
 sum_in f (y ∷ ys) x (inr i) = omega (arith, sum_by-cons f y ys, sum_in f ys x i)
 
+-- what is nowhere more sums to no more
 pub sum_more : {X : Type 0} (f h : X → ℕ) (xs : List X) → ((x : X) → f x ≤ h x) → sum_by f xs ≤ sum_by h xs
 sum_more f h [] each = omega arith
 sum_more f h (x ∷ xs) each = omega (arith, sum_by-cons f x xs, sum_by-cons h x xs, each x, sum_more f h xs each)
@@ -70,9 +72,18 @@ turn_paid e less more h = by (more_is less more h)
 pub end_paid : (e n : ℕ) → n + 1 ≤ (e + 2) * (n + 1)
 end_paid e n = let two : (e + 2) * (n + 1) ≡ e * (n + 1) + 2 * (n + 1) = add-mul e 2 (n + 1) in omega (arith, two)
 
+-- a row no longer than the degree costs no more than the turns of all
+pub products : (e a b : ℕ) → a ≤ b → (e + 2) * (a + 1) ≤ (e + 4) * (1 + b)
+products e a b h =
+    let wide : (e + 2) * (a + 1) ≤ (e + 2) * (1 + b) = mul-le-mul_left (e + 2) (omega (arith, h)) in
+    let four : (e + 4) * (1 + b) ≡ e * (1 + b) + 4 * (1 + b) = add-mul e 4 (1 + b) in
+    let two : (e + 2) * (1 + b) ≡ e * (1 + b) + 2 * (1 + b) = add-mul e 2 (1 + b) in
+    omega (arith, wide, four, two)
+
 -- ---- rows
 
-row_length : (g : Graph) (v : ℕ) (direction : Direction) → length (whole_row direction g v) ≤ degree g v
+-- a row is no longer than the degree of its vertex
+pub row_length : (g : Graph) (v : ℕ) (direction : Direction) → length (whole_row direction g v) ≤ degree g v
 row_length g v Out = omega (arith, length-filter (λ (t : Triple). t.src == v) g.triples)
 row_length g v Inward = omega (arith, length-filter (λ (t : Triple). t.dst == v) g.triples)
 
@@ -96,14 +107,14 @@ module _ (q : PatternGraph) (t : QueryTree) (d : StateRows) (g : Graph) (o : Sea
 
   -- ---- the row at place k is paid for
 
-  pub row_paid : (k : ℕ) → 1 ≤ k → k < length (vertices o) → (p : List (Option ℕ)) → IsGiven q t g o k p → (v : ℕ) → id_of p (nth_anchor o k) ≡ Some v → (direction : Direction) (rows : List Triple) → IsPermutation rows (whole_row direction g v)
+  -- the row of the anchor, and what the embeddings cost from the next place on, come to no more than what they cost from this place on
+  pub row_paid : (k : ℕ) → 1 ≤ k → k < length (vertices o) → (p : List (Option ℕ)) → IsGiven q t g o k p → (v : ℕ) → id_of p (nth_anchor o k) ≡ Some v → (n : ℕ) → n ≤ degree g v
       → (over : List (List ℕ)) → IsPermutation over (members_from q g p)
-      → (length q.edges + 2) * (length rows + 1) + sum_by (cost_from q t g o (k + 1)) over ≤ members_cost q t g o k p
-  row_paid k some few p known v has direction rows all over same =
-      let few_rows : length rows ≤ degree g v = omega (arith, length_permutation rows (whole_row direction g v) all, row_length g v direction) in
+      → (length q.edges + 2) * (n + 1) + sum_by (cost_from q t g o (k + 1)) over ≤ members_cost q t g o k p
+  row_paid k some few p known v has n few_rows over same =
       let m = goes_somewhere q t d g o ready start live (left k few) k (left_is k few) some p known in
       let up = anchor_above q t d g o ready start k some few in
-      let at : slice_index m.0 up.0.parent ≡ v = ap (slice_index m.0) up.2 ∙ given_id p m.0 (nth_anchor o k) v (member q g p m.0 m.1).1 has in
+      let at : slice_index m.0 up.0.parent ≡ v = ap (slice_index m.0) up.2 ∙ given_id p m.0 (nth_anchor o k) v (member q g All p m.0 m.1).1 has in
       let cost : row_cost t g m.0 (nth_vertex o k) ≡ 1 + degree g v = cost_at_link t g m.0 (nth_vertex o k) up.0 up.1 ∙ ap (λ n. 1 + degree g n) at in
       let one : scale * row_cost t g m.0 (nth_vertex o k) ≤ sum_by (λ m. scale * row_cost t g m (nth_vertex o k)) (members_from q g p) = sum_in (λ m. scale * row_cost t g m (nth_vertex o k)) (members_from q g p) m.0 m.1 in
       let whole : members_cost q t g o k p ≡ sum_by (λ m. scale * row_cost t g m (nth_vertex o k)) (members_from q g p) + sum_by (cost_from q t g o (k + 1)) (members_from q g p) =
@@ -111,7 +122,7 @@ module _ (q : PatternGraph) (t : QueryTree) (d : StateRows) (g : Graph) (o : Sea
       ∙ sum_both (λ m. scale * row_cost t g m (nth_vertex o k)) (cost_from q t g o (k + 1)) (members_from q g p) in
       let moved : sum_by (cost_from q t g o (k + 1)) (members_from q g p) ≡ sum_by (cost_from q t g o (k + 1)) over = sum_by-IsPermutation (cost_from q t g o (k + 1)) over (members_from q g p) same in
       let product : scale * row_cost t g m.0 (nth_vertex o k) ≡ scale * (1 + degree g v) = ap (λ n. scale * n) cost in
-      let larger : (length q.edges + 2) * (length rows + 1) ≤ scale * (1 + degree g v) = products (length q.edges) (length rows) (degree g v) few_rows in
+      let larger : (length q.edges + 2) * (n + 1) ≤ scale * (1 + degree g v) = products (length q.edges) n (degree g v) few_rows in
       omega (arith, one, whole, moved, product, larger)
     where
       left : (k : ℕ) → k < length (vertices o) → ℕ
@@ -122,13 +133,6 @@ module _ (q : PatternGraph) (t : QueryTree) (d : StateRows) (g : Graph) (o : Sea
 
       sum_alike : {X : Type 0} (f h : X → ℕ) (xs : List X) → ((x : X) → f x ≡ h x) → sum_by f xs ≡ sum_by h xs
       sum_alike f h xs e = λ i. sum_by (λ x. e x i) xs
-
-      products : (e a b : ℕ) → a ≤ b → (e + 2) * (a + 1) ≤ (e + 4) * (1 + b)
-      products e a b h =
-          let wide : (e + 2) * (a + 1) ≤ (e + 2) * (1 + b) = mul-le-mul_left (e + 2) (omega (arith, h)) in
-          let four : (e + 4) * (1 + b) ≡ e * (1 + b) + 4 * (1 + b) = add-mul e 4 (1 + b) in
-          let two : (e + 2) * (1 + b) ≡ e * (1 + b) + 2 * (1 + b) = add-mul e 2 (1 + b) in
-          omega (arith, wide, four, two)
 
   -- ---- the whole of an embedding's cost
 
@@ -176,16 +180,17 @@ module _ (q : PatternGraph) (t : QueryTree) (d : StateRows) (g : Graph) (o : Sea
   -- ---- the loop over a row
 
   -- at first the row and the embeddings over its candidates are to be paid
-  pub start_paid : (k : ℕ) → 1 ≤ k → k < length (vertices o) → (p : List (Option ℕ)) → IsGiven q t g o k p → (w : ℕ) → w ≡ nth_vertex o k → (v : ℕ) (direction : Direction) (label : List ℕ) → IsRowAt q t o k p v direction label → (rows : List Triple) → IsPermutation rows (whole_row direction g v)
-      → (length q.edges + 2) * (length rows + 1) + sum_by (cost_from q t g o (k + 1)) (members_over q g p w (ends_of direction label rows)) ≤ members_cost q t g o k p
-  start_paid k some few p known w at v direction label row rows all =
-      let split = row_split q t d g o ready k few p known some v direction label row rows all in
-      let split' : IsPermutation (members_over q g p w (ends_of direction label rows)) (members_from q g p) = subst (λ u. IsPermutation (members_over q g p u (ends_of direction label rows)) (members_from q g p)) (sym at) split in
-      row_paid k some few p known v row.anchor direction rows all (members_over q g p w (ends_of direction label rows)) split'
+  pub start_paid : (k : ℕ) → 1 ≤ k → k < length (vertices o) → (p : List (Option ℕ)) → IsGiven q t g o k p → (w : ℕ) → w ≡ nth_vertex o k → (v : ℕ) (direction : Direction) (label : List ℕ) → IsRowAt q t o k p v direction label → (n : ℕ) → n ≤ degree g v → (xs : List ℕ) → IsDistinct nat_eq xs → ((x : ℕ) → is_explicit (joined q t g) (nth_vertex o k) x ≡ true → has_triple g (triple_of direction v label x) ≡ true → In xs x)
+      → (length q.edges + 2) * (n + 1) + sum_by (cost_from q t g o (k + 1)) (members_over q g p w xs) ≤ members_cost q t g o k p
+  start_paid k some few p known w at v direction label row n most xs apart has =
+      let split = row_split q t d g o ready k few p known some v direction label row All xs apart has in
+      let split' : IsPermutation (members_over q g p w xs) (members_from q g p) = subst (λ u. IsPermutation (members_over q g p u xs) (members_from q g p)) (sym at) split in
+      row_paid k some few p known v row.anchor n most (members_over q g p w xs) split'
 
 -- ---- one turn
 
-test_most : (q : PatternGraph) (t : QueryTree) (g : Graph) (w x : ℕ) → test_cost q t g w x ≤ 1 + length q.edges
+-- a candidate costs at most one step more than there are edges
+pub test_most : (q : PatternGraph) (t : QueryTree) (g : Graph) (w x : ℕ) → test_cost q t g w x ≤ 1 + length q.edges
 test_most q t g w x = by (is_explicit (joined q t g) w x)
   where
     by : (b : Bool) → cond b (1 + length q.edges) 1 ≤ 1 + length q.edges
@@ -203,12 +208,14 @@ module _ (q : PatternGraph) (t : QueryTree) (g : Graph) (p : List (Option ℕ)) 
   over_put : (put : List (Option ℕ)) → put ≡ slice_set now w (Some x) → sum_by cost (members_from q g put) ≡ sum_by cost (members_from q g (with_id p w x))
   over_put put is = ap (λ l. sum_by cost (members_from q g l)) (is ∙ ap (λ l. slice_set l w (Some x)) same)
 
+  -- a candidate that is taken is paid for
   pub turn_steps : (put : List (Option ℕ)) → put ≡ slice_set now w (Some x) → (less more : ℕ) → less < more → (s0 s1 s2 s3 first whole : ℕ) → s1 + less ≤ s0 + more → s2 ≤ s1 + test_cost q t g w x → s3 ≤ s2 + sum_by cost (members_from q g put)
       → s0 + ((length q.edges + 2) * (more + 1) + sum_by cost (members_over q g p w xs)) ≤ first + whole
       → s3 + ((length q.edges + 2) * (less + 1) + sum_by cost (members_over q g p w rest)) ≤ first + whole
   turn_steps put is less more h s0 s1 s2 s3 first whole a b c d =
       omega (arith, a, b, c, d, test_most q t g w x, turn_paid (length q.edges) less more (omega (arith, h)), over_split, over_put put is)
 
+  -- so is one that is not
   pub skip_steps : (less more : ℕ) → less < more → (s0 s1 s2 first whole : ℕ) → s1 + less ≤ s0 + more → s2 ≤ s1 + test_cost q t g w x
       → s0 + ((length q.edges + 2) * (more + 1) + sum_by cost (members_over q g p w xs)) ≤ first + whole
       → s2 + ((length q.edges + 2) * (less + 1) + sum_by cost (members_over q g p w rest)) ≤ first + whole

@@ -21,17 +21,20 @@ use Rattle.flux_model.proofs.MemberLemmas.{filter_in, in_any, any_in}
 
 -- ---- lists
 
+-- what each element passes is passed at each place
 pub each_at : {X : Type 0} (p : X → Bool) (xs : List X) (i : ℕ) (d : X) → list_all p xs ≡ true → i < length xs → p (get_or xs i d) ≡ true
 each_at p [] i d all h = absurd (omega arith)
 each_at p (x ∷ xs) zero d all h = (and_parts (p x) (list_all p xs) all).0
 each_at p (x ∷ xs) (suc i) d all h = each_at p xs i d (and_parts (p x) (list_all p xs) all).1 (omega arith)
 
+-- what two lists pass side by side is passed at each place
 pub pair_at : {X : Type 0} (p : X → ℕ → Bool) (xs : List X) (m : List ℕ) (i : ℕ) (d : X) → pointwise p xs m ≡ true → i < length xs → p (get_or xs i d) (slice_index m i) ≡ true
 pair_at p [] m i d all h = absurd (omega arith)
 pair_at p (x ∷ xs) [] i d all h = absurd (let bad : false ≡ true = all in cc)
 pair_at p (x ∷ xs) (y ∷ m) zero d all h = (and_parts (p x y) (pointwise p xs m) all).0
 pair_at p (x ∷ xs) (y ∷ m) (suc i) d all h = pair_at p xs m i d (and_parts (p x y) (pointwise p xs m) all).1 (omega arith)
 
+-- lists that pass side by side are as long
 pub as_long : {X : Type 0} (p : X → ℕ → Bool) (xs : List X) (m : List ℕ) → pointwise p xs m ≡ true → length m ≡ length xs
 as_long p [] [] all = refl
 as_long p [] (y ∷ m) all = absurd (let bad : false ≡ true = all in cc)
@@ -45,11 +48,13 @@ equal Less h = absurd (let bad : false ≡ true = h in cc)
 equal Equal h = refl
 equal Greater h = absurd (let bad : false ≡ true = h in cc)
 
+-- a triple that stands is in the list
 pub triple_in : (g : Graph) (s : Triple) → has_triple g s ≡ true → In g.triples s
 triple_in g s h =
     let r = in_any (λ y. is_eq (triple_cmp s y)) g.triples h in
     subst (λ z. In g.triples z) (sym (triple_exact s r.0 (equal (triple_cmp s r.0) r.2))) r.1
 
+-- a triple of the list stands
 pub in_triple : (g : Graph) (s : Triple) → In g.triples s → has_triple g s ≡ true
 in_triple g s i = any_in (λ y. is_eq (triple_cmp s y)) g.triples s i (ap is_eq (tied_itself triple_total s))
 
@@ -62,6 +67,7 @@ vertex_of_fits q g u v h = by (in_any _ g.vertices (and_parts _ _ h).1)
 
 -- ---- an embedding
 
+-- what is listed is an embedding
 pub embedding_of : (q : PatternGraph) (g : Graph) (m : List ℕ) → In (embeddings q g) m → is_embedding q g m ≡ true
 embedding_of q g m i = (filter_in (is_embedding q g) (id_lists (ids g) (vertex_count q)) m i).1
 
@@ -72,12 +78,15 @@ module _ (q : PatternGraph) (g : Graph) (m : List ℕ) (is : is_embedding q g m 
       let inner = and_parts (fit_all q g m) (keeps_edges q g m) outer.0 in
       (inner.0, inner.1, outer.1)
 
+  -- it has an id for each vertex
   pub ids_count : length m ≡ vertex_count q
   ids_count = as_long (fits_labels g) q.labels m fit_and_keep.0
 
+  -- each of its ids fits
   pub id_fits : (u : ℕ) → u < vertex_count q → fits q u g (slice_index m u) ≡ true
   id_fits u h = and_from _ _ (lt-ltb u (vertex_count q) h) (pair_at (fits_labels g) q.labels m u [] fit_and_keep.0 h)
 
+  -- each edge has its triple
   pub edge_has : (i : ℕ) → i < length q.edges → has_triple g (image m (edge_at q i)) ≡ true
   edge_has i h = each_at (λ e. has_triple g (image m e)) q.edges i (record { tail = 0; label = []; head = 0 }) fit_and_keep.1 h
 

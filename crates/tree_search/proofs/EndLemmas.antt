@@ -25,15 +25,18 @@ use Rattle.tree_search.proofs.EmbeddingLemmas.{triple_in, in_triple}
 
 -- ---- lists
 
+-- what holds of each element holds of all
 pub all_by : {X : Type 0} (P : X → Type 0) (xs : List X) → ((x : X) → In xs x → P x) → AllByRecursion P xs
 all_by P [] h = tt
 all_by P (x ∷ xs) h = (h x (inl refl), all_by P xs (λ y i. h y (inr i)))
 
-by_in : {X : Type 0} (P : X → Type 0) (xs : List X) (x : X) → AllByRecursion P xs → In xs x → P x
+-- what holds of all elements holds of each
+pub by_in : {X : Type 0} (P : X → Type 0) (xs : List X) (x : X) → AllByRecursion P xs → In xs x → P x
 by_in P [] x h i = absurd i
 by_in P (y ∷ ys) x h (inl e) = subst P (sym e) h.0
 by_in P (y ∷ ys) x h (inr i) = by_in P ys x h.1 i
 
+-- what all elements pass each passes
 pub in_all : {X : Type 0} (p : X → Bool) (xs : List X) (x : X) → list_all p xs ≡ true → In xs x → p x ≡ true
 in_all p [] x h i = absurd i
 in_all p (y ∷ ys) x h (inl e) = ap p e ∙ (and_parts (p y) (list_all p ys) h).0
@@ -104,6 +107,7 @@ module _ (g : Graph) (v : ℕ) where
     abbrev has_label : Triple → Bool
     has_label t = bytes_eq label t.label
 
+    -- no end is there twice
     pub ends_distinct : IsGraph g → IsDistinct nat_eq (ends_of direction label rows)
     ends_distinct is =
         distinct_values has_label (other_end direction) rows
@@ -114,12 +118,14 @@ module _ (g : Graph) (v : ℕ) where
         let labels : s.label ≡ t.label = sym (same_text label s.label (sym a)) ∙ same_text label t.label (sym b) in
         sym p.1 ∙ (λ k. triple_of direction v (labels k) (same k)) ∙ r.1)
 
+    -- an end to which the triple leads is there
     pub ends_have : (x : ℕ) → has_triple g (triple_of direction v label x) ≡ true → In (ends_of direction label rows) x
     ends_have x h =
         let there = in_permutation rows (whole_row direction g v) all (triple_of direction v label x) (row_has direction label x (triple_in g (triple_of direction v label x) h)) in
         let kept = in_filter has_label rows (triple_of direction v label x) there (label_of direction label x) in
         subst (λ y. In (ends_of direction label rows) y) (end_of direction label x) (in_mapped (other_end direction) (filter has_label rows) (triple_of direction v label x) kept)
 
+    -- to each end the triple leads
     pub end_stands : (x : ℕ) → In (ends_of direction label rows) x → has_triple g (triple_of direction v label x) ≡ true
     end_stands x i =
         let s = mapped_in (other_end direction) (filter has_label rows) x i in

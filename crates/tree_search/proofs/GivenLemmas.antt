@@ -1,6 +1,7 @@
 -- One vertex of the order after another is given an id from the row of its anchor's.
-use Rattle.std.proofs.Common.{◌≡◌, ◌≢◌, ℕ, zero, suc, ◌<◌, ◌≤◌, Bool, true, false, cond, ◌&&◌, ◌||◌, ◌==◌, List, [], ◌∷◌, length, replicate, slice_index, Option, Some, None, inl, inr, refl, sym, ap, ◌∙◌, subst, arith}
+use Rattle.std.proofs.Common.{◌≡◌, ◌≢◌, ℕ, zero, suc, ◌<◌, ◌≤◌, Bool, true, false, cond, ◌&&◌, ◌||◌, ◌==◌, nat_eq, List, [], ◌∷◌, length, replicate, slice_index, Option, Some, None, inl, inr, refl, sym, ap, ◌∙◌, subst, arith}
 use Rattle.std.specs.Prelude.{◌⊎◌, IsPermutation, slice_get, slice_set}
+use Rattle.std.specs.List.{IsDistinct}
 use Rattle.std.proofs.lemmas.Bool.{and_parts, or_cases, or_parts, or_right, eqb-true, eqb-false, eq-eqb, ne_eqb, cases_eq, cases_lt}
 use Rattle.std.proofs.lemmas.Grind.{get_or-set_at}
 use Rattle.std.proofs.lemmas.List.{length-set, get_or-set_other, length-replicate}
@@ -12,7 +13,6 @@ use Rattle.flux_model.specs.Partial.{id_of, with_id, stands_between, stands_wher
 use Rattle.flux_model.specs.Pattern.{PatternGraph, vertex_count}
 use Rattle.flux_model.specs.States.{joined, is_explicit, reaches_within}
 use Rattle.flux_model.specs.Tree.{QueryTree, edge_at, link_at, is_child, BelongsTo}
-use Rattle.flux_model.specs.declared.graph.Triple.{Triple}
 use Rattle.flux_model.specs.declared.pattern.PatternEdge.{PatternEdge}
 use Rattle.flux_model.specs.declared.tree.TreeLink.{TreeLink}
 use Rattle.flux_model.specs.Members.{In}
@@ -22,23 +22,26 @@ use Rattle.match_order.proofs.LinkLemmas.{anchor_is}
 use Rattle.nontree_test.proofs.CallerLemmas.{keeps_mode_at_start, keeps_non_tree_at_start, keeps_mode_with, keeps_non_tree_with}
 use Rattle.query_tree.specs.Depth.{depth}
 use Rattle.query_tree.proofs.CallerLemmas.{link_within, parent_within, is_child_of, depth-below}
-use Rattle.graph_rows.specs.Directions.{whole_row, triple_of, ends_of, direction_to}
+use Rattle.graph_rows.specs.Directions.{triple_of, direction_to}
 use Rattle.graph_rows.specs.declared.direction.Direction.{Direction}
 use Rattle.graph_rows.specs.declared.direction.Direction.TheVariants.{Out, In as Inward}
 use Rattle.tree_search.specs.Given.{IsReady, IsGiven, IsRowAt, nth_vertex, nth_anchor, may_have, edge_of, edge_between}
-use Rattle.tree_search.specs.Members.{members_from, members_over, GrewUpTo}
+use Rattle.tree_search.specs.AimedMembers.{members_at, members_over_at}
+use Rattle.tree_search.specs.Members.{GrewUpTo}
+use Rattle.tree_search.specs.declared.aim.Aim.{Aim}
 use Rattle.tree_search.proofs.GrowthLemmas.{grew_none}
 use Rattle.tree_search.proofs.MemberLemmas.{given_id, members_split}
 use Rattle.tree_search.proofs.EmbeddingLemmas.{edge_has, vertex_of_fits}
-use Rattle.tree_search.proofs.ChosenLemmas.{ends_of_link}
-use Rattle.tree_search.proofs.EndLemmas.{ends_distinct, ends_have}
+use Rattle.tree_search.proofs.ChosenLemmas.{ends_of_link, explicit_chosen}
 use Rattle.tree_search.proofs.PassLemmas.{member}
 
 -- ---- an id more
 
+-- the vertex that is given an id has it
 pub id_here : (p : List (Option ℕ)) (w x : ℕ) → w < length p → id_of (with_id p w x) w ≡ Some x
 id_here p w x h = get_or-set_at p w w (Some x) None refl h
 
+-- the others have what they had
 pub id_there : (p : List (Option ℕ)) (w x u : ℕ) → u ≢ w → id_of (with_id p w x) u ≡ id_of p u
 id_there p w x u other = get_or-set_other p w u (Some x) None other
 
@@ -97,6 +100,7 @@ module _ (q : PatternGraph) (t : QueryTree) (belongs : BelongsTo q t) where
     abbrev between : PatternEdge
     between = edge_at q (edge_between t w a)
 
+    -- two neighbours of the tree are not the same
     pub tie_apart : w ≢ a
     tie_apart = by joined
       where
@@ -104,6 +108,7 @@ module _ (q : PatternGraph) (t : QueryTree) (belongs : BelongsTo q t) where
         by (inl (l, e, same)) equal = apart a l e (sym equal ∙ sym same)
         by (inr (l, e, same)) equal = apart w l e (equal ∙ sym same)
 
+    -- the number of the edge between them is one of an edge
     pub tie_number : edge_between t w a < length q.edges
     tie_number = by joined
       where
@@ -111,6 +116,7 @@ module _ (q : PatternGraph) (t : QueryTree) (belongs : BelongsTo q t) where
         by (inl (l, e, same)) = omega (arith, number_up w a l e same, (belongs.links a l e).edge)
         by (inr (l, e, same)) = omega (arith, number_down w a l e same, (belongs.links w l e).edge)
 
+    -- the edge joins the two
     pub tie_joins : Joins between w a
     tie_joins = by joined
       where
@@ -179,6 +185,7 @@ none_of zero u = refl
 none_of (suc n) zero = refl
 none_of (suc n) (suc u) = none_of n u
 
+-- at the start no vertex has an id
 pub given_none : (q : PatternGraph) (t : QueryTree) (g : Graph) (o : SearchOrder) → IsGiven q t g o 0 (replicate (vertex_count q) None)
 given_none q t g o = record {
   places = length-replicate (vertex_count q) None;
@@ -194,12 +201,15 @@ module _ (q : PatternGraph) (t : QueryTree) (d : StateRows) (g : Graph) (o : Sea
   abbrev w : ℕ
   w = nth_vertex o k
 
+  -- the next vertex is one of the pattern
   pub vertex_inside : w < length p
   vertex_inside = omega (arith, vertex_within t o ready.order k few, ready.belongs.vertices, known.places)
 
+  -- it has no id yet
   pub vertex_free : id_of p w ≡ None
   vertex_free = known.later k (omega arith) few
 
+  -- its place is there, and empty
   pub vertex_open : slice_get p w ≡ Some None
   vertex_open = slice_get-get_or p w None vertex_inside ∙ ap Some vertex_free
 
@@ -262,6 +272,7 @@ module _ (q : PatternGraph) (t : QueryTree) (d : StateRows) (g : Graph) (o : Sea
 
   -- ---- the start
 
+  -- with an id for the first vertex of the order, one is given
   pub given_first : k ≡ 0 → (x : ℕ) → may_have q t g p w x ≡ true → IsGiven q t g o (suc k) (with_id p w x)
   given_first first x may = given_with x may (λ u l e has.
       let other = other_end_of (edge_at q l.edge) u l.parent w (ends_at u l e) has in
@@ -285,6 +296,7 @@ module _ (q : PatternGraph) (t : QueryTree) (d : StateRows) (g : Graph) (o : Sea
     row_triple : (x : ℕ) → triple_of direction v label x ≡ triple_of (direction_to edge w) v edge.label x
     row_triple x = λ i. triple_of (row.leads i) v (row.name i) x
 
+    -- the anchor's id is a vertex of the graph
     pub anchor_stands : has_vertex g v ≡ true
     anchor_stands =
         let is = known.explicit a v row.anchor in
@@ -294,6 +306,7 @@ module _ (q : PatternGraph) (t : QueryTree) (d : StateRows) (g : Graph) (o : Sea
         fits_of zero h = absurd (let bad : false ≡ true = h in cc)
         fits_of (suc n) h = (and_parts _ _ h).0
 
+    -- with an id to which the tree edge leads, one more is given
     pub given_next : (x : ℕ) → may_have q t g p w x ≡ true → has_triple g (triple_of direction v label x) ≡ true → IsGiven q t g o (suc k) (with_id p w x)
     given_next x may stands = given_with x may (λ u l e has. link u l e (other_end_of (edge_at q l.edge) u l.parent w (ends_at u l e) has))
       where
@@ -329,20 +342,27 @@ module _ (q : PatternGraph) (t : QueryTree) (d : StateRows) (g : Graph) (o : Sea
     -- ---- none is lost
 
     -- an embedding's id is a candidate
-    pub member_in_row : (m : List ℕ) → In (members_from q g p) m → has_triple g (triple_of direction v label (slice_index m w)) ≡ true
-    member_in_row m i =
-        let r = member q g p m i in
+    pub member_in_row : (aim : Aim) (m : List ℕ) → In (members_at q g aim p) m → has_triple g (triple_of direction v label (slice_index m w)) ≡ true
+    member_in_row aim m i =
+        let r = member q g aim p m i in
         let number = tie_number q t ready.belongs w a tied in
         ap (has_triple g) (row_triple (slice_index m w) ∙ triple_at edge w a (slice_index m w) v (tie_apart q t ready.belongs w a tied) (tie_joins q t ready.belongs w a tied) (slice_index m) refl (given_id p m a v r.1 row.anchor))
         ∙ edge_has q g m r.0 (edge_between t w a) number
 
+    -- the vertex hangs from its anchor, or its anchor from it
     pub anchor_hangs : HangsFrom t a w ⊎ HangsFrom t w a
     anchor_hangs = tied
 
-    pub row_split : (rows : List Triple) → IsPermutation rows (whole_row direction g v) → IsPermutation (members_over q g p w (ends_of direction label rows)) (members_from q g p)
-    row_split rows all =
-        members_split q g p w vertex_inside vertex_free (ends_of direction label rows) (ends_distinct g v direction label rows all ready.graph)
-        (λ m i. ends_have g v direction label rows all (slice_index m w) (member_in_row m i))
+    -- the candidates are listed once each
+    abbrev pub AreCandidates : List ℕ → Type 0
+    AreCandidates xs = (x : ℕ) → is_explicit (joined q t g) w x ≡ true → has_triple g (triple_of direction v label x) ≡ true → In xs x
 
-    pub row_start : (rows : List Triple) → IsPermutation rows (whole_row direction g v) → (old : List (List ℕ)) → GrewUpTo old old (members_over q g p w (ends_of direction label rows)) (members_from q g p)
-    row_start rows all old = grew_none old (members_over q g p w (ends_of direction label rows)) (members_from q g p) (row_split rows all)
+    -- what goes on is split by the candidates of a list that has them all
+    pub row_split : (aim : Aim) (xs : List ℕ) → IsDistinct nat_eq xs → AreCandidates xs → IsPermutation (members_over_at q g aim p w xs) (members_at q g aim p)
+    row_split aim xs apart has =
+        members_split q g aim p w vertex_inside vertex_free xs apart
+        (λ m i. has (slice_index m w) (explicit_chosen q t g ready.belongs m (member q g aim p m i).0 w (omega (arith, vertex_inside, known.places))) (member_in_row aim m i))
+
+    -- before the first candidate all that goes on is to come
+    pub row_start : (aim : Aim) (xs : List ℕ) → IsDistinct nat_eq xs → AreCandidates xs → (old : List (List ℕ)) → GrewUpTo old old (members_over_at q g aim p w xs) (members_at q g aim p)
+    row_start aim xs apart has old = grew_none old (members_over_at q g aim p w xs) (members_at q g aim p) (row_split aim xs apart has)

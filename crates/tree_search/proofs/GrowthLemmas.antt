@@ -4,7 +4,8 @@ use Rattle.std.specs.Prelude.{IsPermutation, Result, Ok, Err, OnErr}
 use Rattle.std.proofs.lemmas.List.Sorted.{IsPermutation-trans, IsPermutation-append_left, IsPermutation-append_right, IsPermutation-refl}
 use Rattle.tree_search.specs.Members.{GrewUpTo, GrewByAll, GrewBySome}
 
-append_none : {X : Type 0} (xs : List X) → xs ++ [] ≡ xs
+-- a list with nothing behind it is itself
+pub append_none : {X : Type 0} (xs : List X) → xs ++ [] ≡ xs
 append_none [] = refl
 append_none (x ∷ xs) = ap (λ l. x ∷ l) (append_none xs)
 

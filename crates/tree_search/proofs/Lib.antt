@@ -11,3 +11,9 @@ pub mod TieLemmas
 pub mod TurnLemmas
 pub mod LiveLemmas
 pub mod CostLemmas
+pub mod SentLemmas
+pub mod AimLemmas
+pub mod EdgeLemmas
+pub mod LookLemmas
+pub mod CandidateLemmas
+pub mod BarrenLemmas

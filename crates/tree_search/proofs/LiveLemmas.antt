@@ -31,6 +31,7 @@ use Rattle.graph_rows.specs.Directions.{triple_of, direction_to}
 use Rattle.graph_rows.specs.declared.direction.Direction.TheVariants.{Out, In as Inward}
 use Rattle.tree_search.specs.Given.{IsReady, IsGiven, IsRowAt, nth_vertex, nth_anchor, may_have, edge_between}
 use Rattle.tree_search.specs.Members.{members_from, ids_of}
+use Rattle.tree_search.specs.declared.aim.Aim.TheVariants.{All}
 use Rattle.tree_search.specs.SearchCosts.{MeetsNoDeadEnd}
 use Rattle.tree_search.proofs.MemberLemmas.{members_with}
 use Rattle.tree_search.proofs.EndLemmas.{in_all}
@@ -43,12 +44,14 @@ free_in : (mode : Mode) (p : List (Option ℕ)) (x : ℕ) → mode ≡ Hom → i
 free_in Hom p x e = refl
 free_in Iso p x e = absurd (let clash : Iso ≡ Hom = e in cc)
 
+-- where nothing refuses it, an explicit pair may be given
 pub explicit_may_have : (q : PatternGraph) (t : QueryTree) (g : Graph) → MeetsNoDeadEnd q t → (p : List (Option ℕ)) (w x : ℕ) → is_explicit (joined q t g) w x ≡ true → may_have q t g p w x ≡ true
 explicit_may_have q t g live p w x is =
     and_from _ _ (and_from (is_explicit (joined q t g) w x) (is_free q.mode p x) is (free_in q.mode p x live.free))
     (ap (λ l. list_all (λ i. edge_joins g p w x (edge_at q i)) l) live.joined)
 
-fits_when : (n : ℕ) (j : Joined) (u v : ℕ) → extends_within n j u v ≡ true → j.fits u v ≡ true
+-- a pair that extends fits
+pub fits_when : (n : ℕ) (j : Joined) (u v : ℕ) → extends_within n j u v ≡ true → j.fits u v ≡ true
 fits_when zero j u v h = absurd (let bad : false ≡ true = h in cc)
 fits_when (suc n) j u v h = (and_parts _ _ h).0
 
@@ -118,6 +121,7 @@ module _ (q : PatternGraph) (t : QueryTree) (d : StateRows) (g : Graph) (o : Sea
           let up = rest i (omega (arith, less)) (omega (arith, less, high)) m (ap (link_at t) at ∙ f) in
           absurd (omega (arith, less, up.1, one_place t o ready.order up.0 (suc j) (omega (arith, up.1, less, high)) high (up.2 ∙ same)))
 
+  -- from the root on, the anchor is the parent
   pub anchor_above : (k : ℕ) → 1 ≤ k → k < length (vertices o) → (l : TreeLink) × (link_at t (nth_vertex o k) ≡ Some l) × (l.parent ≡ nth_anchor o k)
   anchor_above k some few = by (anchor_before t o ready.order k some few) (anchor_joined t o ready.order k some few)
     where
@@ -174,9 +178,11 @@ module _ (q : PatternGraph) (t : QueryTree) (d : StateRows) (g : Graph) (o : Sea
           (λ i. has_triple g (triple_of (direction_to (edge_at q above.0.edge) w) (sym top i) (edge_at q above.0.edge).label r.0.below)) ∙ joint_stands q t g w above.0 above.1 r.0 r.1,
         )
 
+    -- the row of the anchor's id is the one that is walked
     pub row_of_anchor : (v : ℕ) → id_of p a ≡ Some v → IsRowAt q t o k p v (direction_to (edge_at q (edge_between t w a)) w) (edge_at q (edge_between t w a)).label
     row_of_anchor v has = record { anchor = has; leads = refl; name = refl }
 
+    -- some candidate may be given
     pub next_given : (y : ℕ) × IsGiven q t g o (suc k) (with_id p w y)
     next_given =
         let b = anchor_before t o ready.order k some few in
@@ -189,11 +195,12 @@ module _ (q : PatternGraph) (t : QueryTree) (d : StateRows) (g : Graph) (o : Sea
 
   -- ---- an embedding goes on
 
+  -- so every partial map goes on to an embedding
   pub goes_somewhere : MeetsNoDeadEnd q t → (left k : ℕ) → k + left ≡ length (vertices o) → 1 ≤ k → (p : List (Option ℕ)) → IsGiven q t g o k p → (m : List ℕ) × In (members_from q g p) m
-  goes_somewhere live zero k size some p known = (ids_of p, subst (λ l. In l (ids_of p)) (sym (one_member q t d g o ready k (omega (arith, size)) p known)) (inl refl))
+  goes_somewhere live zero k size some p known = (ids_of p, subst (λ l. In l (ids_of p)) (sym (one_member q t d g o ready k (omega (arith, size)) p known All tt)) (inl refl))
   goes_somewhere live (suc left) k size some p known =
       let few : k < length (vertices o) = omega (arith, size) in
       let next = next_given live k some few p known in
       let more = goes_somewhere live left (suc k) (omega (arith, size)) (omega arith) (with_id p (nth_vertex o k) next.0) next.1 in
-      let here = subst (λ l. In l more.0) (members_with q g p (nth_vertex o k) (vertex_inside q t d g o ready k few p known) (vertex_free q t d g o ready k few p known) next.0) more.1 in
+      let here = subst (λ l. In l more.0) (members_with q g All p (nth_vertex o k) (vertex_inside q t d g o ready k few p known) (vertex_free q t d g o ready k few p known) next.0) more.1 in
       (more.0, (filter_in (λ (m : List ℕ). slice_index m (nth_vertex o k) == next.0) (members_from q g p) more.0 here).0)

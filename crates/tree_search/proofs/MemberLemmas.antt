@@ -6,10 +6,12 @@ use Rattle.std.specs.Cmp.Lexicographic.{pointwise}
 use Rattle.std.proofs.lemmas.Bool.{and_parts}
 use Rattle.flux_model.specs.Graph.{Graph}
 use Rattle.flux_model.specs.Pattern.{PatternGraph}
-use Rattle.flux_model.specs.Embedding.{embeddings}
+use Rattle.tree_search.specs.Aim.{aimed}
+use Rattle.tree_search.specs.AimedMembers.{members_at, members_over_at}
 use Rattle.flux_model.specs.Partial.{id_of, with_id}
 use Rattle.flux_model.specs.Members.{In}
-use Rattle.tree_search.specs.Members.{agrees, goes_on, members_from, members_over}
+use Rattle.tree_search.specs.Members.{agrees, goes_on}
+use Rattle.tree_search.specs.declared.aim.Aim.{Aim}
 use Rattle.tree_search.proofs.SplitLemmas.{by_key, split_by_key}
 
 -- with one id more
@@ -52,15 +54,16 @@ filter_both {X} a b c (x ∷ xs) h = by (a x) refl (filter_both a b c xs h)
     by true e more = rw (h x, e) (λ i. cond (b x) (x ∷ more i) (more i))
     by false e more = rw (h x, e) more
 
-module _ (q : PatternGraph) (g : Graph) (p : List (Option ℕ)) (w : ℕ) (inside : w < length p) (none : id_of p w ≡ None) where
-  pub members_with : (x : ℕ) → members_from q g (with_id p w x) ≡ filter (λ (m : List ℕ). slice_index m w == x) (members_from q g p)
-  members_with x = filter_both (goes_on p) (λ m. slice_index m w == x) (goes_on (with_id p w x)) (embeddings q g) (λ m. goes_on_with p m w x inside none)
+module _ (q : PatternGraph) (g : Graph) (aim : Aim) (p : List (Option ℕ)) (w : ℕ) (inside : w < length p) (none : id_of p w ≡ None) where
+  -- one more id leaves those that have it
+  pub members_with : (x : ℕ) → members_at q g aim (with_id p w x) ≡ filter (λ (m : List ℕ). slice_index m w == x) (members_at q g aim p)
+  members_with x = filter_both (goes_on p) (λ m. slice_index m w == x) (goes_on (with_id p w x)) (aimed q g aim) (λ m. goes_on_with p m w x inside none)
 
   -- by the ids that they have for w
-  pub members_split : (zs : List ℕ) → IsDistinct nat_eq zs → ((m : List ℕ) → In (members_from q g p) m → In zs (slice_index m w)) → IsPermutation (members_over q g p w zs) (members_from q g p)
+  pub members_split : (zs : List ℕ) → IsDistinct nat_eq zs → ((m : List ℕ) → In (members_at q g aim p) m → In zs (slice_index m w)) → IsPermutation (members_over_at q g aim p w zs) (members_at q g aim p)
   members_split zs apart among =
-      subst (λ l. IsPermutation l (members_from q g p)) (sym (over zs)) (split_by_key (λ (m : List ℕ). slice_index m w) zs (members_from q g p) apart among)
+      subst (λ l. IsPermutation l (members_at q g aim p)) (sym (over zs)) (split_by_key (λ (m : List ℕ). slice_index m w) zs (members_at q g aim p) apart among)
     where
-      over : (xs : List ℕ) → members_over q g p w xs ≡ by_key (λ (m : List ℕ). slice_index m w) (members_from q g p) xs
+      over : (xs : List ℕ) → members_over_at q g aim p w xs ≡ by_key (λ (m : List ℕ). slice_index m w) (members_at q g aim p) xs
       over [] = refl
       over (x ∷ xs) = λ i. members_with x i ++ over xs i

@@ -5,7 +5,7 @@ use Rattle.std.proofs.lemmas.Bool.{and_parts, and_from, or_parts, or_from, or_ri
 use Rattle.std.proofs.lemmas.Grind.{get_or-set_at, get_or_default_zero}
 use Rattle.std.proofs.lemmas.List.{length-set}
 use Rattle.std.proofs.lemmas.List.Sums.{list_all-from_AllPass}
-use Rattle.flux_model.specs.Embedding.{image, is_embedding, embeddings, keeps_mode}
+use Rattle.flux_model.specs.Embedding.{image, is_embedding, keeps_mode}
 use Rattle.flux_model.specs.Graph.{Graph, has_triple}
 use Rattle.flux_model.specs.Ordered.{are_distinct_by}
 use Rattle.flux_model.specs.Partial.{id_of, with_id, stands_between, stands_where_given, has_end, edge_joins, joins, same_id, is_free}
@@ -18,18 +18,24 @@ use Rattle.flux_model.specs.declared.pattern.PatternEdge.{PatternEdge}
 use Rattle.flux_model.specs.Members.{In}
 use Rattle.flux_model.proofs.MemberLemmas.{filter_in}
 use Rattle.nontree_test.proofs.NonTreeLemmas.{non_tree_within}
+use Rattle.tree_search.specs.Aim.{aimed, keeps_aim}
+use Rattle.tree_search.specs.AimedMembers.{members_at, may_take}
 use Rattle.tree_search.specs.Given.{may_have}
-use Rattle.tree_search.specs.Members.{agrees, goes_on, members_from}
+use Rattle.tree_search.specs.Members.{agrees, goes_on}
+use Rattle.tree_search.specs.declared.aim.Aim.{Aim}
+use Rattle.tree_search.proofs.AimLemmas.{aimed_embedding, given_keeps}
 use Rattle.tree_search.proofs.MemberLemmas.{given_id}
 use Rattle.tree_search.proofs.EmbeddingLemmas.{as_long, embedding_of, edge_has, mode_kept}
 use Rattle.tree_search.proofs.ChosenLemmas.{explicit_chosen}
 
+-- a list without an element is empty
 pub nothing : {X : Type 0} (xs : List X) → ((x : X) → In xs x → ⊥) → xs ≡ []
 nothing [] h = refl
 nothing (x ∷ xs) h = absurd (h x (inl refl))
 
-pub member : (q : PatternGraph) (g : Graph) (p : List (Option ℕ)) (m : List ℕ) → In (members_from q g p) m → (is_embedding q g m ≡ true) × (goes_on p m ≡ true)
-member q g p m i = let r = filter_in (goes_on p) (embeddings q g) m i in (embedding_of q g m r.0, r.1)
+-- what goes on is an embedding, and has the ids
+pub member : (q : PatternGraph) (g : Graph) (aim : Aim) (p : List (Option ℕ)) (m : List ℕ) → In (members_at q g aim p) m → (is_embedding q g m ≡ true) × (goes_on p m ≡ true)
+member q g aim p m i = let r = filter_in (goes_on p) (aimed q g aim) m i in (embedding_of q g m (aimed_embedding q g aim m r.0), r.1)
 
 -- ---- the triples under the ids of an embedding stand
 
@@ -38,6 +44,7 @@ stands_by g label None b x y f h stands = refl
 stands_by g label (Some s) None x y f h stands = refl
 stands_by g label (Some s) (Some d) x y f h stands = (λ i. has_triple g (record { src = sym (f s refl) i; label = label; dst = sym (h d refl) i })) ∙ stands
 
+-- where both ends are given, an edge of an embedding has its triple
 pub member_stands : (g : Graph) (p : List (Option ℕ)) (m : List ℕ) (e : PatternEdge) → goes_on p m ≡ true → has_triple g (image m e) ≡ true → stands_where_given g p e ≡ true
 member_stands g p m e goes stands =
     stands_by g e.label (id_of p e.tail) (id_of p e.head) (slice_index m e.tail) (slice_index m e.head) (λ z. given_id p m e.tail z goes) (λ z. given_id p m e.head z goes) stands
@@ -101,6 +108,7 @@ module _ (q : PatternGraph) (t : QueryTree) (g : Graph) (belongs : BelongsTo q t
         let within : i < length q.edges = omega (arith, non_tree_within q t belongs k h, get_or_default_zero (non_tree t) k d h) in
         or_right (not (has_end w (edge_at q i))) _ (member_stands g (with_id p w x) m (edge_at q i) goes (edge_has q g m is i within)))
 
+    -- the id that it gives passes the tests
     pub given_may_have : may_have q t g p w x ≡ true
     given_may_have =
         and_from _ _ (and_from (is_explicit (joined q t g) w x) (is_free q.mode p x)
@@ -109,8 +117,9 @@ module _ (q : PatternGraph) (t : QueryTree) (g : Graph) (belongs : BelongsTo q t
         joins_by
 
   -- what fails a test leads nowhere
-  pub dead_end : may_have q t g p w x ≡ false → members_from q g (with_id p w x) ≡ []
-  dead_end fails = nothing (members_from q g (with_id p w x)) (λ m i.
-      let r = member q g (with_id p w x) m i in
-      let bad = given_may_have m r.0 r.1 in
-      both_ways (may_have q t g p w x) fails bad)
+  pub dead_end : (aim : Aim) → may_take q t g aim p w x ≡ false → members_at q g aim (with_id p w x) ≡ []
+  dead_end aim fails = nothing (members_at q g aim (with_id p w x)) (λ m i.
+      let r = member q g aim (with_id p w x) m i in
+      let keeps = given_keeps q p w x inside g aim m (filter_in (goes_on (with_id p w x)) (aimed q g aim) m i).0 r.1 in
+      let bad = and_from (keeps_aim q aim p w x) (may_have q t g p w x) keeps (given_may_have m r.0 r.1) in
+      both_ways (may_take q t g aim p w x) fails bad)

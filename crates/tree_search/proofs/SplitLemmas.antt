@@ -7,6 +7,7 @@ use Rattle.std.proofs.lemmas.List.Sorted.{IsPermutation-trans, IsPermutation-app
 use Rattle.flux_model.specs.Members.{In}
 use Rattle.flux_model.proofs.MemberLemmas.{filter_in}
 
+-- those with the first key, then those with the second, and so on
 abbrev pub by_key : {X : Type 0} → (X → ℕ) → List X → List ℕ → List X
 by_key key xs zs = flat_map (λ z. filter (λ x. key x == z) xs) zs
 

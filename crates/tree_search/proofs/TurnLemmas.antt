@@ -1,45 +1,46 @@
 -- One turn of the search: a candidate for the vertex at place k.
-use Rattle.std.proofs.Common.{◌≡◌, ℕ, suc, ◌+◌, ◌<◌, ◌≤◌, Bool, true, false, List, [], ◌∷◌, ◌++◌, drop, drop_of_length-le, length, map, replicate, Option, Some, None, inl, inr, refl, sym, ap, ◌∙◌, subst, arith, nat_eq}
+use Rattle.std.proofs.Common.{◌≡◌, ℕ, suc, ◌+◌, ◌<◌, ◌≤◌, Bool, true, false, List, [], ◌∷◌, ◌++◌, drop, drop_of_length-le, length, replicate, Option, Some, None, inl, inr, refl, sym, ap, ◌∙◌, subst, arith, nat_eq}
 use Rattle.std.specs.Prelude.{slice_get, slice_set, slice_index, IsPermutation, ◌==◌}
 use Rattle.std.proofs.lemmas.List.{length-map}
+use Rattle.std.specs.Cmp.{nat_eq_equiv}
 use Rattle.std.specs.List.{IsDistinct}
-use Rattle.std.specs.Ordering.{nat_cmp, is_lt}
-use Rattle.std.specs.Cmp.{nat_cmp_total, nat_eq_equiv}
-use Rattle.std.proofs.lemmas.Bool.{eqb-true, ne_eqb}
-use Rattle.std.proofs.lemmas.Cmp.{tied_itself}
+use Rattle.std.proofs.lemmas.Bool.{and_parts, eqb-true}
 use Rattle.std.proofs.lemmas.List.Sorted.{IsPermutation-sym, length_permutation}
 use Rattle.std.proofs.lemmas.Map.Keys.{IsDistinct-IsPermutation}
 use Rattle.std.proofs.lemmas.Option.{get_or_from_slice_get, slice_get_within}
 use Rattle.std.proofs.Math.Seq.{drop-cons}
 use Rattle.flux_model.specs.Embedding.{embeddings}
 use Rattle.flux_model.specs.Exact.{StateRows}
-use Rattle.flux_model.specs.Graph.{Graph, ids, has_triple, has_vertex, vertex_cmp}
+use Rattle.flux_model.specs.Graph.{Graph, ids, has_triple, has_vertex}
 use Rattle.flux_model.specs.Order.{SearchOrder}
-use Rattle.flux_model.specs.Ordered.{is_ascending}
 use Rattle.flux_model.specs.Partial.{id_of, with_id}
 use Rattle.flux_model.specs.Pattern.{PatternGraph, vertex_count}
+use Rattle.flux_model.specs.States.{joined, is_explicit}
 use Rattle.flux_model.specs.Tree.{QueryTree}
-use Rattle.flux_model.specs.declared.graph.Triple.{Triple}
 use Rattle.flux_model.specs.declared.graph.Vertex.{Vertex}
-use Rattle.flux_laws.proofs.AscendingLemmas.{below_rest, tail_ascending}
-use Rattle.flux_laws.proofs.SetsLemmas.{vertex_total}
 use Rattle.flux_model.specs.Members.{In}
-use Rattle.flux_model.proofs.MemberLemmas.{in_any, mapped_in, in_mapped, in_permutation}
+use Rattle.flux_model.proofs.MemberLemmas.{in_any, in_mapped, in_permutation}
 use Rattle.match_order.specs.Whole.{vertices}
-use Rattle.graph_rows.specs.Directions.{whole_row, triple_of, ends_of}
+use Rattle.graph_rows.specs.Directions.{triple_of}
 use Rattle.graph_rows.specs.declared.direction.Direction.{Direction}
 use Rattle.tree_search.specs.Given.{IsReady, IsGiven, IsRowAt, nth_vertex, may_have}
-use Rattle.tree_search.specs.Members.{members_from, members_over, GrewUpTo, GrewByAll, GrewBySome}
+use Rattle.tree_search.specs.Aim.{IsAimed, keeps_aim}
+use Rattle.tree_search.specs.AimedMembers.{members_at, members_over_at, may_take}
+use Rattle.tree_search.specs.Members.{members_over, members_from, GrewUpTo, GrewByAll, GrewBySome}
+use Rattle.tree_search.specs.declared.aim.Aim.{Aim}
+use Rattle.tree_search.specs.declared.aim.Aim.TheVariants.{All}
+use Rattle.tree_search.proofs.AimLemmas.{aimed_with}
 use Rattle.tree_search.proofs.GrowthLemmas.{grew_none, grew_all, grew_turn, grew_skip, grew_stop}
 use Rattle.tree_search.proofs.MemberLemmas.{members_split}
 use Rattle.tree_search.proofs.EmbeddingLemmas.{id_fits, vertex_of_fits}
-use Rattle.tree_search.proofs.EndLemmas.{all_by, in_all}
+use Rattle.graph_rows.proofs.SumLemmas.{distinct_ids}
 use Rattle.tree_search.proofs.PassLemmas.{member, dead_end}
 use Rattle.tree_search.proofs.GivenLemmas.{cleared, given_none, vertex_inside, vertex_free, vertex_open, given_first, given_next, row_start}
 use Rattle.tree_search.proofs.WholeLemmas.{all_from_none}
 
 module _ (q : PatternGraph) (t : QueryTree) (d : StateRows) (g : Graph) (o : SearchOrder) (ready : IsReady q t d g o) (k : ℕ) (few : k < length (vertices o)) (p : List (Option ℕ)) (known : IsGiven q t g o k p)
     (w : ℕ) (at : w ≡ nth_vertex o k) (now : List (Option ℕ)) (same : now ≡ p) where
+  -- the vertex has no id yet
   pub turn_open : slice_get now w ≡ Some None
   turn_open = (λ i. slice_get (same i) (at i)) ∙ vertex_open q t d g o ready k few p known
 
@@ -54,28 +55,28 @@ module _ (q : PatternGraph) (t : QueryTree) (d : StateRows) (g : Graph) (o : Sea
   turn_back x put after cleared_now is stays back =
       cleared p w x inside free cleared_now (back ∙ ap (λ l. slice_set l w None) (stays ∙ is ∙ ap (λ l. slice_set l w (Some x)) same))
 
-  module _ (x : ℕ) (xs rest : List ℕ) (ends : xs ≡ x ∷ rest) (old mid : List (List ℕ)) (all : List (List ℕ)) (grew : GrewUpTo old mid (members_over q g p w xs) all) where
-    first : GrewUpTo old mid (members_from q g (with_id p w x) ++ members_over q g p w rest) all
-    first = subst (λ l. GrewUpTo old mid (members_over q g p w l) all) ends grew
+  module _ (aim : Aim) (x : ℕ) (xs rest : List ℕ) (ends : xs ≡ x ∷ rest) (old mid : List (List ℕ)) (all : List (List ℕ)) (grew : GrewUpTo old mid (members_over_at q g aim p w xs) all) where
+    first : GrewUpTo old mid (members_at q g aim (with_id p w x) ++ members_over_at q g aim p w rest) all
+    first = subst (λ l. GrewUpTo old mid (members_over_at q g aim p w l) all) ends grew
 
     given_now : (put : List (Option ℕ)) → put ≡ slice_set now w (Some x) → put ≡ with_id p w x
     given_now put is = is ∙ ap (λ l. slice_set l w (Some x)) same
 
     -- the embeddings with x are found
-    pub turn_found : (put : List (Option ℕ)) → put ≡ slice_set now w (Some x) → (new : List (List ℕ)) → GrewByAll mid new (members_from q g put) → GrewUpTo old new (members_over q g p w rest) all
+    pub turn_found : (put : List (Option ℕ)) → put ≡ slice_set now w (Some x) → (new : List (List ℕ)) → GrewByAll mid new (members_at q g aim put) → GrewUpTo old new (members_over_at q g aim p w rest) all
     turn_found put is new more =
-        grew_turn old mid new (members_from q g (with_id p w x)) (members_over q g p w rest) all first (subst (λ l. GrewByAll mid new (members_from q g l)) (given_now put is) more)
+        grew_turn old mid new (members_at q g aim (with_id p w x)) (members_over_at q g aim p w rest) all first (subst (λ l. GrewByAll mid new (members_at q g aim l)) (given_now put is) more)
 
     -- only some of them are
-    pub turn_stop : (put : List (Option ℕ)) → put ≡ slice_set now w (Some x) → (new : List (List ℕ)) → GrewBySome mid new (members_from q g put) → GrewBySome old new all
+    pub turn_stop : (put : List (Option ℕ)) → put ≡ slice_set now w (Some x) → (new : List (List ℕ)) → GrewBySome mid new (members_at q g aim put) → GrewBySome old new all
     turn_stop put is new more =
-        grew_stop old mid new (members_from q g (with_id p w x)) (members_over q g p w rest) all first (subst (λ l. GrewBySome mid new (members_from q g l)) (given_now put is) more)
+        grew_stop old mid new (members_at q g aim (with_id p w x)) (members_over_at q g aim p w rest) all first (subst (λ l. GrewBySome mid new (members_at q g aim l)) (given_now put is) more)
 
     -- there are none
-    pub turn_skip : (told : Bool) → told ≡ may_have q t g now w x → told ≡ false → GrewUpTo old mid (members_over q g p w rest) all
+    pub turn_skip : (told : Bool) → told ≡ may_take q t g aim now w x → told ≡ false → GrewUpTo old mid (members_over_at q g aim p w rest) all
     turn_skip told may fails =
-        grew_skip old mid (members_from q g (with_id p w x)) (members_over q g p w rest) all first
-        (dead_end q t g ready.belongs p w x known.places inside free (ap (λ l. may_have q t g l w x) (sym same) ∙ sym may ∙ fails))
+        grew_skip old mid (members_at q g aim (with_id p w x)) (members_over_at q g aim p w rest) all first
+        (dead_end q t g ready.belongs p w x known.places inside free aim (ap (λ l. may_take q t g aim l w x) (sym same) ∙ sym may ∙ fails))
 
   passed : (x : ℕ) (told : Bool) → told ≡ may_have q t g now w x → told ≡ true → may_have q t g p (nth_vertex o k) x ≡ true
   passed x told may passes = (λ i. may_have q t g (sym same i) (sym at i) x) ∙ sym may ∙ passes
@@ -89,16 +90,28 @@ module _ (q : PatternGraph) (t : QueryTree) (d : StateRows) (g : Graph) (o : Sea
       subst (λ n. IsGiven q t g o n put) (ap suc none)
       (subst (λ l. IsGiven q t g o (suc k) l) (placed x put is) (given_first q t d g o ready k few p known none x (passed x told may passes)))
 
-  module _ (some : 1 ≤ k) (v : ℕ) (direction : Direction) (label : List ℕ) (row : IsRowAt q t o k p v direction label) where
+  taken : (aim : Aim) (x : ℕ) (told : Bool) → told ≡ may_take q t g aim now w x → told ≡ true → (keeps_aim q aim p (nth_vertex o k) x ≡ true) × (may_have q t g p (nth_vertex o k) x ≡ true)
+  taken aim x told may passes = and_parts (keeps_aim q aim p (nth_vertex o k) x) (may_have q t g p (nth_vertex o k) x) ((λ i. may_take q t g aim (sym same i) (sym at i) x) ∙ sym may ∙ passes)
+
+  -- what is aimed at stays so
+  pub turn_aimed : (aim : Aim) → IsAimed q aim p → (x : ℕ) (told : Bool) → told ≡ may_take q t g aim now w x → told ≡ true → (put : List (Option ℕ)) → put ≡ slice_set now w (Some x) → IsAimed q aim put
+  turn_aimed aim known_aim x told may passes put is =
+      subst (λ l. IsAimed q aim l) (placed x put is)
+      (aimed_with q p (nth_vertex o k) x (vertex_inside q t d g o ready k few p known) aim known_aim (vertex_free q t d g o ready k few p known) (taken aim x told may passes).0)
+
+  module _ (aim : Aim) (some : 1 ≤ k) (v : ℕ) (direction : Direction) (label : List ℕ) (row : IsRowAt q t o k p v direction label) where
+    -- with a candidate that passes, one more vertex is given
     pub turn_given : (x : ℕ) (xs rest : List ℕ) → xs ≡ x ∷ rest → ((y : ℕ) → In xs y → has_triple g (triple_of direction v label y) ≡ true)
-        → (told : Bool) → told ≡ may_have q t g now w x → told ≡ true → (put : List (Option ℕ)) → put ≡ slice_set now w (Some x) → IsGiven q t g o (k + 1) put
+        → (told : Bool) → told ≡ may_take q t g aim now w x → told ≡ true → (put : List (Option ℕ)) → put ≡ slice_set now w (Some x) → IsGiven q t g o (k + 1) put
     turn_given x xs rest ends stand told may passes put is =
         let stands = stand x (subst (λ l. In l x) (sym ends) (inl refl)) in
         subst (λ n. IsGiven q t g o n put) (omega arith)
-        (subst (λ l. IsGiven q t g o (suc k) l) (placed x put is) (given_next q t d g o ready k few p known some v direction label row x (passed x told may passes) stands))
+        (subst (λ l. IsGiven q t g o (suc k) l) (placed x put is) (given_next q t d g o ready k few p known some v direction label row x (taken aim x told may passes).1 stands))
 
-    pub turns_start : (rows : List Triple) → IsPermutation rows (whole_row direction g v) → (old : List (List ℕ)) → GrewUpTo old old (members_over q g p w (ends_of direction label rows)) (members_from q g p)
-    turns_start rows all old = subst (λ u. GrewUpTo old old (members_over q g p u (ends_of direction label rows)) (members_from q g p)) (sym at) (row_start q t d g o ready k few p known some v direction label row rows all old)
+    -- before the first candidate all is to come
+    pub turns_start : (xs : List ℕ) → IsDistinct nat_eq xs → ((x : ℕ) → is_explicit (joined q t g) (nth_vertex o k) x ≡ true → has_triple g (triple_of direction v label x) ≡ true → In xs x)
+        → (old : List (List ℕ)) → GrewUpTo old old (members_over_at q g aim p w xs) (members_at q g aim p)
+    turns_start xs apart has old = subst (λ u. GrewUpTo old old (members_over_at q g aim p u xs) (members_at q g aim p)) (sym at) (row_start q t d g o ready k few p known some v direction label row aim xs apart has old)
 
 -- the candidates that are left are candidates
 pub others_stand : (test : ℕ → Bool) (x : ℕ) (xs rest : List ℕ) → xs ≡ x ∷ rest → ((y : ℕ) → In xs y → test y ≡ true) → (y : ℕ) → In rest y → test y ≡ true
@@ -106,27 +119,13 @@ others_stand test x xs rest ends stand y i = stand y (subst (λ l. In l y) (sym 
 
 -- ---- the vertices of the graph as candidates of the root
 
-distinct_ids : (vs : List Vertex) → is_ascending vertex_cmp vs ≡ true → IsDistinct nat_eq (map (λ (v : Vertex). v.id) vs)
-unfolding IsDistinct
-distinct_ids [] a = tt
-distinct_ids (x ∷ xs) a = (
-  all_by (λ y. nat_eq x.id y ≡ false) (map (λ (v : Vertex). v.id) xs) apart,
-  distinct_ids xs (tail_ascending vertex_cmp vertex_total x xs a),
-)
-  where
-    apart : (y : ℕ) → In (map (λ (v : Vertex). v.id) xs) y → nat_eq x.id y ≡ false
-    apart y i =
-        let v = mapped_in (λ (v : Vertex). v.id) xs y i in
-        let less : is_lt (nat_cmp x.id v.0.id) ≡ true = in_all (λ z. is_lt (vertex_cmp x z)) xs v.0 (below_rest vertex_cmp vertex_total x xs a) v.1 in
-        ne_eqb x.id y (λ same.
-        let tie : is_lt (nat_cmp x.id v.0.id) ≡ false = ap (λ n. is_lt (nat_cmp x.id n)) (sym (same ∙ v.2)) ∙ ap is_lt (tied_itself nat_cmp_total x.id) in
-        let clash : false ≡ true = sym tie ∙ less in cc)
-
-vertex_listed : (g : Graph) (v : ℕ) → has_vertex g v ≡ true → In (ids g) v
+-- a vertex of the graph is among its ids
+pub vertex_listed : (g : Graph) (v : ℕ) → has_vertex g v ≡ true → In (ids g) v
 vertex_listed g v h =
     let r = in_any (λ (x : Vertex). x.id == v) g.vertices h in
     subst (λ n. In (ids g) n) (eqb-true r.0.id v r.2) (in_mapped (λ (x : Vertex). x.id) g.vertices r.0 r.1)
 
+-- the vertex at a place is the first of the rest
 pub next_vertex : (xs : List ℕ) (i x : ℕ) → slice_get xs i ≡ Some x → drop i xs ≡ x ∷ drop (i + 1) xs
 next_vertex xs i x e =
     let next : suc i ≡ i + 1 = omega arith in
@@ -154,35 +153,43 @@ module _ (q : PatternGraph) (t : QueryTree) (d : StateRows) (g : Graph) (o : Sea
   within : w < vertex_count q
   within = omega (arith, root, ready.belongs.tree.root, ready.belongs.vertices)
 
+  -- the embeddings are split by the id of the root
   pub root_split : (listed : List ℕ) → IsPermutation listed (ids g) → IsPermutation (members_over q g none w listed) (embeddings q g)
   root_split listed all =
-      let split = members_split q g none w (inside q t d g o ready 0 some none (given_none q t g o) w at_first none refl) (free q t d g o ready 0 some none (given_none q t g o) w at_first none refl) listed
-      (IsDistinct-IsPermutation nat_eq nat_eq_equiv.symm (ids g) listed (IsPermutation-sym listed (ids g) all) (distinct_ids g.vertices ready.graph.ascending_vertices))
-      (λ m i. in_permutation listed (ids g) all (slice_index m w) (vertex_listed g (slice_index m w) (vertex_of_fits q g w (slice_index m w) (id_fits q g m (member q g none m i).0 w within)))) in
+      let split = members_split q g All none w (inside q t d g o ready 0 some none (given_none q t g o) w at_first none refl) (free q t d g o ready 0 some none (given_none q t g o) w at_first none refl) listed
+      (IsDistinct-IsPermutation nat_eq nat_eq_equiv.symm (ids g) listed (IsPermutation-sym listed (ids g) all) (distinct_ids g ready.graph))
+      (λ m i. in_permutation listed (ids g) all (slice_index m w) (vertex_listed g (slice_index m w) (vertex_of_fits q g w (slice_index m w) (id_fits q g m (member q g All none m i).0 w within)))) in
       subst (λ l. IsPermutation (members_over q g none w listed) l) (all_from_none q g) split
 
+  -- before the first vertex all embeddings are to come
   pub root_start : (listed : List ℕ) → IsPermutation listed (ids g) → (old : List (List ℕ)) → GrewUpTo old old (members_over q g none w listed) (embeddings q g)
   root_start listed all old = grew_none old (members_over q g none w listed) (embeddings q g) (root_split listed all)
 
   module _ (now : List (Option ℕ)) (same : now ≡ none) where
+    -- the root has no id yet
     pub root_open : slice_get now w ≡ Some None
     root_open = turn_open q t d g o ready 0 some none (given_none q t g o) w at_first now same
 
+    -- with a vertex that passes, the root is given
     pub root_given : (x : ℕ) (told : Bool) → told ≡ may_have q t g now w x → told ≡ true → (put : List (Option ℕ)) → put ≡ slice_set now w (Some x) → IsGiven q t g o 1 put
     root_given = turn_first q t d g o ready 0 some none (given_none q t g o) w at_first now same refl
 
+    -- its id is taken back
     pub root_back : (x : ℕ) (put after cleared_now : List (Option ℕ)) → put ≡ slice_set now w (Some x) → after ≡ put → cleared_now ≡ slice_set after w None → cleared_now ≡ none
     root_back = turn_back q t d g o ready 0 some none (given_none q t g o) w at_first now same
 
     module _ (listed : List ℕ) (i x : ℕ) (here : slice_get listed i ≡ Some x) (old mid : List (List ℕ)) (grew : GrewUpTo old mid (members_over q g none w (drop i listed)) (embeddings q g)) where
+      -- what has this id for the root is found
       pub root_found : (put : List (Option ℕ)) → put ≡ slice_set now w (Some x) → (new : List (List ℕ)) → GrewByAll mid new (members_from q g put) → GrewUpTo old new (members_over q g none w (drop (i + 1) listed)) (embeddings q g)
-      root_found = turn_found q t d g o ready 0 some none (given_none q t g o) w at_first now same x (drop i listed) (drop (i + 1) listed) (next_vertex listed i x here) old mid (embeddings q g) grew
+      root_found = turn_found q t d g o ready 0 some none (given_none q t g o) w at_first now same All x (drop i listed) (drop (i + 1) listed) (next_vertex listed i x here) old mid (embeddings q g) grew
 
+      -- where that stops short, some are found
       pub root_stop : (put : List (Option ℕ)) → put ≡ slice_set now w (Some x) → (new : List (List ℕ)) → GrewBySome mid new (members_from q g put) → GrewBySome old new (embeddings q g)
-      root_stop = turn_stop q t d g o ready 0 some none (given_none q t g o) w at_first now same x (drop i listed) (drop (i + 1) listed) (next_vertex listed i x here) old mid (embeddings q g) grew
+      root_stop = turn_stop q t d g o ready 0 some none (given_none q t g o) w at_first now same All x (drop i listed) (drop (i + 1) listed) (next_vertex listed i x here) old mid (embeddings q g) grew
 
+      -- a vertex that does not pass has no embedding
       pub root_skip : (told : Bool) → told ≡ may_have q t g now w x → told ≡ false → GrewUpTo old mid (members_over q g none w (drop (i + 1) listed)) (embeddings q g)
-      root_skip = turn_skip q t d g o ready 0 some none (given_none q t g o) w at_first now same x (drop i listed) (drop (i + 1) listed) (next_vertex listed i x here) old mid (embeddings q g) grew
+      root_skip = turn_skip q t d g o ready 0 some none (given_none q t g o) w at_first now same All x (drop i listed) (drop (i + 1) listed) (next_vertex listed i x here) old mid (embeddings q g) grew
 
   -- in the end none is left
   pub root_end : (listed : List ℕ) (i n : ℕ) → IsPermutation listed (ids g) → n ≡ length g.vertices → n ≤ i → (old new : List (List ℕ)) → GrewUpTo old new (members_over q g none w (drop i listed)) (embeddings q g) → GrewByAll old new (embeddings q g)

@@ -17,7 +17,7 @@ use Rattle.flux_model.specs.Partial.{id_of, stands_where_given, keeps_non_tree, 
 use Rattle.flux_model.specs.Pattern.{PatternGraph, HasEnds, vertex_count, fits_labels}
 use Rattle.flux_model.specs.States.{joined, reaches_within}
 use Rattle.flux_model.specs.Tree.{QueryTree, edge_at}
-use Rattle.flux_laws.proofs.EmbeddingsLemmas.{embeddings-ascending, same_exact, embedding_listed}
+use Rattle.flux_laws.proofs.EmbeddingsLemmas.{same_exact, embedding_listed}
 use Rattle.flux_model.specs.Members.{In}
 use Rattle.flux_model.proofs.MemberLemmas.{filter_in, in_filter, in_any}
 use Rattle.flux_laws.proofs.AscendingLemmas.{filter-ascending}
@@ -25,8 +25,12 @@ use Rattle.flux_laws.proofs.SameMembersLemmas.{ascending_same}
 use Rattle.match_order.specs.Whole.{vertices}
 use Rattle.match_order.proofs.CallerLemmas.{place_of_vertex}
 use Rattle.nontree_test.proofs.CallerLemmas.{keeps_mode_at_end, keeps_edges_at_end, stands_at_end}
+use Rattle.tree_search.specs.Aim.{aimed, IsAimed}
+use Rattle.tree_search.specs.AimedMembers.{members_at}
 use Rattle.tree_search.specs.Given.{IsReady, IsGiven}
 use Rattle.tree_search.specs.Members.{goes_on, members_from, ids_of}
+use Rattle.tree_search.specs.declared.aim.Aim.{Aim}
+use Rattle.tree_search.proofs.AimLemmas.{aimed_listed, aimed_ascending}
 use Rattle.tree_search.proofs.EmbeddingLemmas.{embedding_of}
 
 -- ---- lists of ids that are all given
@@ -65,7 +69,8 @@ goes_on_none t [] (y ∷ m) all = absurd (let bad : false ≡ true = all in cc)
 goes_on_none t (x ∷ xs) [] all = absurd (let bad : false ≡ true = all in cc)
 goes_on_none t (x ∷ xs) (y ∷ m) all = goes_on_none t xs m (and_parts (t x y) (pointwise t xs m) all).1
 
-filter_none : {X : Type 0} (p : X → Bool) (xs : List X) → ((x : X) → In xs x → p x ≡ true) → filter p xs ≡ xs
+-- a filter that all pass leaves a list as it is
+pub filter_none : {X : Type 0} (p : X → Bool) (xs : List X) → ((x : X) → In xs x → p x ≡ true) → filter p xs ≡ xs
 filter_none p [] h = refl
 filter_none p (x ∷ xs) h = rw (h x (inl refl)) (ap (λ l. x ∷ l) (filter_none p xs (λ y i. h y (inr i))))
 
@@ -135,8 +140,9 @@ module _ (q : PatternGraph) (t : QueryTree) (d : StateRows) (g : Graph) (o : Sea
       let r = in_any (same_map ids) (embeddings q g) (embedding_listed q g ids is_one) in
       subst (λ m. In (embeddings q g) m) (sym (same_exact ids r.0 r.2)) r.1
 
-  pub one_member : members_from q g p ≡ ids_of p ∷ []
-  one_member =
-      one_left (goes_on p) (embeddings q g) ids (embeddings-ascending q g ready.graph.ascending_vertices) listed
+  -- where every vertex has an id, those ids are all that goes on
+  pub one_member : (aim : Aim) → IsAimed q aim p → members_at q g aim p ≡ ids_of p ∷ []
+  one_member aim known_aim =
+      one_left (goes_on p) (aimed q g aim) ids (aimed_ascending q g aim ready.graph.ascending_vertices) (aimed_listed q g aim p ids full edge_ends known_aim listed)
       (subst (λ r. goes_on r ids ≡ true) (sym full) (goes_on_itself ids))
       (λ m goes. goes_on_same ids m (subst (λ r. goes_on r m ≡ true) full goes))

@@ -43,6 +43,7 @@ may_have q t g p w x = is_explicit (joined q t g) w x && is_free q.mode p x && j
 
 -- ---- the tree edge between a vertex and its anchor
 
+-- the edge of a link; of none it is 0
 abbrev pub edge_of : Option TreeLink → ℕ
 edge_of None = 0
 edge_of (Some l) = l.edge

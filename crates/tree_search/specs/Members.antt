@@ -12,6 +12,7 @@ abbrev pub agrees : Option ℕ → ℕ → Bool
 agrees None x = true
 agrees (Some y) x = y == x
 
+-- a list of ids has those that are given
 abbrev pub goes_on : List (Option ℕ) → List ℕ → Bool
 goes_on p m = pointwise agrees p m
 

@@ -1,17 +1,26 @@
-//! All embeddings of a pattern, each once, by a search that goes only where the index says it can.
+//! All embeddings of a pattern, or those of one class of a triple, each once, by a search that goes only where the index says
+//! that it can.
 //!
 //! A search gives the vertices of a pattern ids in an order in which each stands next to one before it in the pattern's tree.
-//! A candidate for a vertex comes from the row of that neighbour's id, and is taken where the index calls its pair explicit
-//! and where the edges that the tree leaves out and the mode allow it:
+//! A candidate for a vertex comes from the row of that neighbour's id, or from the index where it has fewer, and is taken where
+//! its pair is explicit and where the edges that the tree leaves out, the mode and the class allow it:
 //!
 //! - `found`: what takes the embeddings, one after another.
-//! - `search`: `all`, the search.
+//! - `aim`: which embeddings a search is for.
+//! - `explicit_pairs`: what the index tells of them.
+//! - `candidates`: the ids that a vertex may have beside its anchor's, from the shorter of two lists.
+//! - `search`: how a search goes on from the ids that are given.
+//! - `starts`: `all`, the search for all, and `at_edge`, that for those that use a triple.
 //!
-//! Only the order and what takes the embeddings want memory.
+//! Only what takes the embeddings wants memory.
 #![tactic(auto)]
 
+mod aim;
+mod candidates;
+mod explicit_pairs;
 mod found;
 mod search;
+mod starts;
 
 pub use found::Found;
-pub use search::all;
+pub use starts::{all, at_edge};

@@ -1,12 +1,11 @@
-use Rattle.std.proofs.Common.{◌≡◌, ℕ, [], Option, Some, None, refl, sym, ap, subst, ◌∙◌, arith}
-use Rattle.std.specs.Prelude.{IsSome}
-use Rattle.std.proofs.lemmas.List.{get_or_read}
+use Rattle.std.proofs.Common.{◌≡◌, [], Some, None, refl, sym, ap, subst, ◌∙◌, arith}
+use Rattle.std.specs.Prelude.{IsSome, slice_index_or}
 use Rattle.std.proofs.lemmas.Option.{get_or_from_slice_get}
 use Rattle.flux_model.specs.Partial.{id_of}
 use Rattle.flux_model.specs.Order.{are_neighbours}
 use Rattle.flux_model.specs.Tree.{edge_at}
 use Rattle.flux_model.specs.declared.pattern.PatternEdge.{PatternEdge}
-use Rattle.graph_traits.specs.Numbers.{IsNumberOf}
+use Rattle.graph_traits.specs.Numbers.{IsNumberIn}
 use Rattle.graph_rows.specs.Directions.{direction_to}
 use Rattle.tree_search.specs.Given.{nth_vertex, nth_anchor, edge_between}
 use Rattle.tree_search.proofs.TieLemmas.{anchor_inside, anchor_beside, anchor_given}
@@ -60,7 +59,6 @@ returns-clause-number g c =
     let n = c.edge_between-number.result in
     let texts = g.G.HoldGraph.label_text s.graph.now in
     let found = get_or_from_slice_get q.edges n c.edge-edge.result.now (record { tail = 0; label = []; head = 0 }) c.edge-edge.ensures.edge in
-    let read = get_or_read s.numbers.items n c.index.result.now (omega (arith, c.edge_between-number.ensures.within, c.requires.numbers.sized)) c.index.ensures None in
-    let P : PatternEdge → Type 0 = λ e. IsNumberOf texts e.label c.index.result.now in
-    let Q : Option ℕ → Type 0 = λ o. IsNumberOf texts (edge_at q n).label o in
-    subst P found (subst Q (sym read) (c.requires.numbers.each n c.edge_between-number.ensures.within).tells)
+    let graph = g.G.HoldGraph.graph s.graph.now in
+    let P : PatternEdge → Type 0 = λ e. IsNumberIn texts graph e.label (slice_index_or s.numbers n None) in
+    subst P found (c.requires.numbers.each n c.edge_between-number.ensures.within)

@@ -5,7 +5,7 @@ use Rattle.flux_model.specs.Embedding.{embeddings}
 use Rattle.flux_model.specs.Pattern.{vertex_count}
 use Rattle.tree_search.specs.Members.{members_over, GrewUpTo}
 use Rattle.tree_search.specs.SearchCosts.{MeetsNoDeadEnd}
-use Rattle.tree_search.proofs.search.all.Given as goal
+use Rattle.tree_search.proofs.starts.all.Given as goal
 
 -- what was found, with the embeddings over the vertices still to come, is all
 abbrev pub invariant-loop-i : goal.invariant-loop-i

@@ -1,0 +1,88 @@
+-- Where the candidates of a vertex come from: they are the same, whichever list is walked.
+use Rattle.std.proofs.Common.{◌≡◌, ℕ, suc, ◌+◌, ◌<◌, ◌≤◌, Bool, true, false, cond, nat_eq, List, [], ◌∷◌, drop, drop_of_length-le, filter, length, is_some, refl, sym, ap, ◌∙◌, subst, arith}
+use Rattle.std.specs.Prelude.{slice_index}
+use Rattle.std.proofs.Math.Seq.{drop-cons}
+use Rattle.std.specs.List.{IsDistinct, list_any}
+use Rattle.std.proofs.lemmas.Bool.{and_parts, eqb-true}
+use Rattle.std.proofs.lemmas.List.Sorted.{length_permutation}
+use Rattle.flux_model.specs.Costs.{degree}
+use Rattle.flux_model.specs.Exact.{StateRows, row_at, IsExact}
+use Rattle.flux_model.specs.Graph.{Graph, IsGraph}
+use Rattle.flux_model.specs.Pattern.{PatternGraph}
+use Rattle.flux_model.specs.States.{joined, reaches, extends, is_explicit}
+use Rattle.flux_model.specs.Tree.{QueryTree}
+use Rattle.flux_model.specs.declared.graph.Triple.{Triple}
+use Rattle.flux_model.specs.Members.{In}
+use Rattle.graph_traits.specs.declared.spot.Spot.{Spot}
+use Rattle.flux_model.proofs.MemberLemmas.{filter_in, in_filter, in_any}
+use Rattle.graph_rows.specs.Directions.{whole_row}
+use Rattle.graph_rows.specs.LabelRows.{row_from}
+use Rattle.tree_search.specs.CandidatesLeft.{leads_to, listed_from, left, reads, IsStart}
+use Rattle.tree_search.specs.declared.candidates.Candidates.{Candidates}
+use Rattle.tree_search.specs.declared.candidates.Cursor.{Cursor}
+use Rattle.tree_search.specs.declared.candidates.Cursor.TheVariants.{Row, Layer}
+use Rattle.tree_search.proofs.CostLemmas.{row_length}
+use Rattle.tree_search.proofs.EndLemmas.{all_by, by_in, ends_distinct, ends_have, end_stands}
+
+distinct_filter : (p : ℕ → Bool) (xs : List ℕ) → IsDistinct nat_eq xs → IsDistinct nat_eq (filter p xs)
+unfolding IsDistinct
+distinct_filter p [] d = tt
+distinct_filter p (x ∷ xs) d = by (p x) (distinct_filter p xs d.1)
+  where
+    by : (b : Bool) → IsDistinct nat_eq (filter p xs) → IsDistinct nat_eq (cond b (x ∷ filter p xs) (filter p xs))
+    by true rest = (all_by (λ y. nat_eq x y ≡ false) (filter p xs) (λ y i. by_in (λ z. nat_eq x z ≡ false) xs y d.0 (filter_in p xs y i).0), rest)
+    by false rest = rest
+
+listed_in : (x : ℕ) (xs : List ℕ) → list_any (nat_eq x) xs ≡ true → In xs x
+listed_in x xs h = let r = in_any (nat_eq x) xs h in subst (λ y. In xs y) (sym (eqb-true x r.0 r.2)) r.1
+
+-- an explicit pair has a row
+pub layer_has : (q : PatternGraph) (t : QueryTree) (d : StateRows) (g : Graph) → IsExact q t g d → (u : ℕ) (layer : List ℕ) → ((v : ℕ) → list_any (nat_eq v) layer ≡ is_some (row_at d u v))
+    → (x : ℕ) → is_explicit (joined q t g) u x ≡ true → list_any (nat_eq x) layer ≡ true
+layer_has q t d g exact u layer rows x explicit =
+    let reached : reaches (joined q t g) u x ≡ true = (and_parts (reaches (joined q t g) u x) (extends (joined q t g) u x) explicit).0 in
+    rows x ∙ ap is_some (exact.rows u x) ∙ rw reached refl
+
+module _ (outs ins : ℕ → Spot → List Triple) (g : Graph) (c : Candidates) where
+  -- no candidate is left twice
+  pub start_apart : IsGraph g → (at : Cursor) → IsStart outs ins g c at → IsDistinct nat_eq c.layer.now → IsDistinct nat_eq (left outs ins g c at)
+  start_apart is (Row s) start once = ends_distinct g c.row.vertex c.row.direction c.row.label.now (row_from outs ins c.row s) start is
+  start_apart is (Layer i) start once = subst (λ n. IsDistinct nat_eq (filter (leads_to g c) (drop n c.layer.now))) (sym start.first) (distinct_filter (leads_to g c) c.layer.now once)
+
+  -- an id of the layer to which the triple leads is left
+  pub start_has : (at : Cursor) → IsStart outs ins g c at → (x : ℕ) → list_any (nat_eq x) c.layer.now ≡ true → leads_to g c x ≡ true → In (left outs ins g c at) x
+  start_has (Row s) start x listed leads = ends_have g c.row.vertex c.row.direction c.row.label.now (row_from outs ins c.row s) start x leads
+  start_has (Layer i) start x listed leads = subst (λ n. In (filter (leads_to g c) (drop n c.layer.now)) x) (sym start.first) (in_filter (leads_to g c) c.layer.now x (listed_in x c.layer.now listed) leads)
+
+  -- the triple leads to what is left
+  pub start_stands : (at : Cursor) → IsStart outs ins g c at → (x : ℕ) → In (left outs ins g c at) x → leads_to g c x ≡ true
+  start_stands (Row s) start x i = end_stands g c.row.vertex c.row.direction c.row.label.now (row_from outs ins c.row s) start x i
+  start_stands (Layer n) start x i = (filter_in (leads_to g c) (drop n c.layer.now) x i).1
+
+  -- no more reads are left than the vertex has triples
+  pub start_few : (at : Cursor) → IsStart outs ins g c at → reads outs ins c at ≤ degree g c.row.vertex
+  start_few (Row s) start = omega (arith, length_permutation (row_from outs ins c.row s) (whole_row c.row.direction g c.row.vertex) start, row_length g c.row.vertex c.row.direction)
+  start_few (Layer i) start = omega (arith, start.first, start.few)
+
+-- ---- one vertex of the layer after another
+
+module _ (g : Graph) (c : Candidates) (i : ℕ) where
+  abbrev x : ℕ
+  x = slice_index c.layer.now i
+
+  first_is : i < length c.layer.now → listed_from g c i ≡ cond (leads_to g c x) (x ∷ listed_from g c (i + 1)) (listed_from g c (i + 1))
+  first_is within =
+      let next : suc i ≡ i + 1 = omega arith in
+      ap (λ l. filter (leads_to g c) l) (drop-cons c.layer.now i 0 within ∙ ap (λ n. x ∷ drop n c.layer.now) next)
+
+  -- a vertex to which the triple leads is the first that is left
+  pub layer_turn : i < length c.layer.now → leads_to g c x ≡ true → listed_from g c i ≡ x ∷ listed_from g c (i + 1)
+  layer_turn within leads = first_is within ∙ ap (λ b. cond b (x ∷ listed_from g c (i + 1)) (listed_from g c (i + 1))) leads
+
+  -- a vertex to which it does not lead is passed over
+  pub layer_skip : i < length c.layer.now → leads_to g c x ≡ false → listed_from g c i ≡ listed_from g c (i + 1)
+  layer_skip within fails = first_is within ∙ ap (λ b. cond b (x ∷ listed_from g c (i + 1)) (listed_from g c (i + 1))) fails
+
+  -- at the end of the layer nothing is left
+  pub layer_end : length c.layer.now ≤ i → listed_from g c i ≡ []
+  layer_end end = ap (λ l. filter (leads_to g c) l) (drop_of_length-le c.layer.now end)

@@ -1,0 +1,44 @@
+-- The candidates that are left from a place on, in a row or in a layer of the index.
+use Rattle.std.specs.Prelude.{◌≡◌, ℕ, ◌-◌, ◌≤◌, Bool, List, length, drop, filter, IsPermutation}
+use Rattle.flux_model.specs.Costs.{degree}
+use Rattle.flux_model.specs.Graph.{Graph, has_triple}
+use Rattle.flux_model.specs.declared.graph.Triple.{Triple}
+use Rattle.graph_traits.specs.declared.spot.Spot.{Spot}
+use Rattle.graph_rows.specs.Directions.{triple_of, whole_row}
+use Rattle.graph_rows.specs.LabelRows.{row_from, ends_from, IsPlaceOf}
+use Rattle.tree_search.specs.declared.candidates.Candidates.{Candidates}
+use Rattle.tree_search.specs.declared.candidates.Cursor.{Cursor}
+use Rattle.tree_search.specs.declared.candidates.Cursor.TheVariants.{Row, Layer}
+
+-- the triple of the row's label leads to x
+abbrev pub leads_to : Graph → Candidates → ℕ → Bool
+leads_to g c x = has_triple g (triple_of c.row.direction c.row.vertex c.row.label.now x)
+
+-- those of the layer from a number on
+abbrev pub listed_from : Graph → Candidates → ℕ → List ℕ
+listed_from g c i = filter (leads_to g c) (drop i c.layer.now)
+
+-- the candidates that are left from a place on
+abbrev pub left : (ℕ → Spot → List Triple) → (ℕ → Spot → List Triple) → Graph → Candidates → Cursor → List ℕ
+left outs ins g c (Row s) = ends_from outs ins c.row s
+left outs ins g c (Layer i) = listed_from g c i
+
+-- how many turns or vertices are left
+abbrev pub reads : (ℕ → Spot → List Triple) → (ℕ → Spot → List Triple) → Candidates → Cursor → ℕ
+reads outs ins c (Row s) = length (row_from outs ins c.row s)
+reads outs ins c (Layer i) = length c.layer.now - i
+
+-- it is a place of the candidates
+abbrev pub IsCursor : (ℕ → Spot → Type 0) → (ℕ → Spot → Type 0) → Candidates → Cursor → Type 0
+IsCursor is_out is_in c (Row s) = IsPlaceOf is_out is_in c.row s
+IsCursor is_out is_in c (Layer i) = i ≤ length c.layer.now
+
+-- the layer is no longer than the vertex has triples
+pub record IsShort (g : Graph) (c : Candidates) (i : ℕ) : Type 0 where
+  pub first : i ≡ 0
+  pub few : length c.layer.now ≤ degree g c.row.vertex
+
+-- all candidates are left
+abbrev pub IsStart : (ℕ → Spot → List Triple) → (ℕ → Spot → List Triple) → Graph → Candidates → Cursor → Type 0
+IsStart outs ins g c (Row s) = IsPermutation (row_from outs ins c.row s) (whole_row c.row.direction g c.row.vertex)
+IsStart outs ins g c (Layer i) = IsShort g c i
