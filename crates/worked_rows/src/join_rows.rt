@@ -3,9 +3,9 @@ ghost use Rattle.flux_model.specs.Tree.{BelongsTo};
 
 use crate::made::{first, graph_of, patterns_of, tree_of};
 use crate::shapes::{HOOK, TRIANGLE};
-use flux_model::{Mode, Partial, Pattern, Steps, Tally};
+use flux_model::{Mode, Partial, Pattern, Steps, Tally, Text, Triple};
 use label_graph::LabelGraph;
-use nontree_test::{free, joins, label_numbers};
+use nontree_test::{earlier, free, joins, label_numbers};
 use query_tree::QueryTree;
 use std::alloc::{AllocError, Global};
 use std::process::Abort;
@@ -90,18 +90,9 @@ fn check_case(
     let mut partial = Partial::new(count);
     partial.put(u, id);
     assert_eq!(rt; partial.get(w), None);
-    let numbers = label_numbers(alloc, pattern, graph)?;
+    let numbers = label_numbers(pattern, graph);
     let mut steps = Steps::new(Tally::new());
-    let joined = joins(
-        pattern,
-        tree,
-        numbers.as_slice(),
-        &partial,
-        w,
-        x,
-        graph,
-        &mut steps,
-    );
+    let joined = joins(pattern, tree, &numbers, &partial, w, x, graph, &mut steps);
     assert_eq!(rt; joined, answer);
     assert_eq!(rt; steps.ledger().read(), reads);
     Ok(())
@@ -132,4 +123,52 @@ fn an_id_is_given_twice_in_mode_hom_alone(rt: HostRuntime) {
     for (mode, x, is_free) in FREE {
         assert_eq!(rt; free(mode, &partial, x), is_free);
     }
+}
+
+/// A pattern, how many of its edges are looked at, a vertex that has an id, a candidate beside it, a triple of the label `r`,
+/// and whether one of these edges is sent to it.
+type Sent = (&'static str, usize, Given, Given, (u32, u32), bool);
+
+const SENT: [Sent; 11] = [
+    (TRIANGLE, 1, (0, 1), (1, 2), (1, 2), true),
+    (TRIANGLE, 3, (1, 2), (0, 1), (1, 2), true),
+    // The edge itself is not looked at.
+    (TRIANGLE, 0, (0, 1), (1, 2), (1, 2), false),
+    (TRIANGLE, 2, (2, 1), (0, 2), (1, 2), false),
+    (TRIANGLE, 3, (2, 1), (0, 2), (1, 2), true),
+    // It is sent elsewhere, or the other way round.
+    (TRIANGLE, 3, (0, 1), (1, 3), (1, 2), false),
+    (TRIANGLE, 3, (0, 1), (1, 2), (2, 1), false),
+    // The other end of each edge has no id, or the candidate is no end of the edge.
+    (TRIANGLE, 1, (2, 2), (0, 1), (1, 2), false),
+    (TRIANGLE, 1, (0, 1), (2, 2), (1, 2), false),
+    // A loop is sent with its vertex alone.
+    (HOOK, 2, (0, 5), (1, 1), (1, 1), true),
+    (HOOK, 1, (0, 5), (1, 1), (1, 1), false),
+];
+
+/// Compares whether an edge is sent.
+fn check_sent(rt: &impl Abort, alloc: Global, row: &Sent) -> Result<(), AllocError> {
+    let (text, number, (u, id), (w, x), (src, dst), is_sent) = *row;
+    let patterns = patterns_of(rt, alloc, text)?;
+    let pattern = first(rt, &patterns);
+    assert!(rt; number <= pattern.edge_count());
+    assert!(rt; u < pattern.vertex_count());
+    let mut partial = Partial::new(pattern.vertex_count());
+    partial.put(u, id);
+    let label = Text::from_bytes(alloc, b"r")?;
+    let triple = Triple { src, label, dst };
+    assert_eq!(rt; earlier(pattern, number, &partial, w, x, &triple), is_sent);
+    let label = Text::from_bytes(alloc, b"s")?;
+    let other = Triple { src, label, dst };
+    assert!(rt; !earlier(pattern, number, &partial, w, x, &other));
+    Ok(())
+}
+
+#[test]
+fn edges_of_a_lower_number_that_are_sent(rt: HostRuntime) -> Result<(), Fail> {
+    for row in &SENT {
+        check_sent(&rt, rt.alloc(), row)?;
+    }
+    Ok(())
 }

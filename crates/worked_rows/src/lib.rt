@@ -8,7 +8,7 @@
 //! - `join_rows`: what is asked of one candidate of a search.
 //! - `walk_rows`: the row of a vertex, as it is walked for one label.
 //! - `state_rows`: the states of pairs over a graph.
-//! - `search_rows`: all embeddings, over graphs that change line by line.
+//! - `search_rows`: all embeddings over graphs that change line by line, and those that send an edge to a triple.
 //! - `registry_rows`: many patterns over one graph.
 #![tactic(auto)]
 
