@@ -1,0 +1,9 @@
+pub mod Layers
+pub mod Store
+pub mod Local
+pub mod Moves
+pub mod Tree
+pub mod Agree
+pub mod Scan
+pub mod Between
+pub mod Update
