@@ -18,11 +18,11 @@ use Rattle.flux_model.specs.declared.graph.Vertex.{Vertex}
 use Rattle.flux_model.specs.declared.pattern.PatternEdge.{PatternEdge}
 use Rattle.flux_model.specs.declared.tree.TreeLink.{TreeLink}
 use Rattle.dcg_moves.proofs.LinkEnds.{apart, ends_down, ends_up}
-use Rattle.dcg_moves.specs.Update.{Update, label_cost, labels_cost, edge_cost, edges_cost}
 use Rattle.flux_model.specs.Costs.{has_moved, is_end, touched, move_cost}
-use Rattle.dcg_moves.proofs.InsertLemmas.{edges_more, labels_more}
+use Rattle.dcg_moves.proofs.UpdateLemmas.{edges_more, labels_more}
 use Rattle.dcg_moves.proofs.Weights.{in_below}
 use Rattle.dcg_moves.proofs.MoveCost.{sum_pairs}
+use Rattle.dcg_moves.specs.Update.{Update, edge_cost, edges_cost, label_cost, labels_cost}
 
 abbrev bit : Bool → ℕ
 bit b = cond b 1 0

@@ -3,11 +3,14 @@ pub mod LinkEnds
 pub mod Family
 pub mod Links
 pub mod Weights
-pub mod UpLemmas
+pub mod StateLemmas
 pub mod StoreLemmas
+pub mod OutLemmas
+pub mod UpLemmas
+pub mod LateLemmas
+pub mod InLemmas
 pub mod DownLemmas
-pub mod TurnLemmas
-pub mod LocalLemmas
+pub mod JointLemmas
 pub mod Reach
 pub mod Exactness
 pub mod Converse
@@ -16,7 +19,7 @@ pub mod PlaceLemmas
 pub mod ShapeLemmas
 pub mod Bridge
 pub mod BetweenLemmas
-pub mod InsertLemmas
+pub mod UpdateLemmas
 pub mod MoveCost
 pub mod Touched
 pub mod Ends

@@ -13,12 +13,12 @@ use Rattle.flux_model.specs.declared.graph.Triple.{Triple}
 use Rattle.flux_model.specs.States.{Joint, Joined, joint_of, joined_by}
 use Rattle.query_tree.proofs.CallerLemmas.{linked, link_within, is_child_of, child_once, child_at, child_link}
 use Rattle.dcg_moves.proofs.LinkEnds.{ends_down, ends_up}
-use Rattle.dcg_moves.specs.Layers.{Layers, layers_of}
 use Rattle.dcg_moves.specs.Layers as layers
-use Rattle.dcg_moves.specs.Tree.{IsShapeOf, number_in, all_apart}
 use Rattle.dcg_moves.proofs.Lists.{In}
 use Rattle.dcg_moves.proofs.JoinedLemmas.{JoinsFitting, children_same, tree}
 use Rattle.dcg_moves.proofs.PlaceLemmas.{place_stands}
+use Rattle.dcg_moves.specs.Layers.{Layers, layers_of}
+use Rattle.dcg_moves.specs.Shape.{IsShapeOf, all_apart, number_in}
 
 -- ---- joints join what fits
 

@@ -12,12 +12,12 @@ use Rattle.flux_model.specs.declared.graph.Triple.{Triple}
 use Rattle.query_tree.specs.Depth.{depth}
 use Rattle.dcg_store.proofs.StateLemmas.{full_is_extends}
 use Rattle.dcg_moves.proofs.LinkEnds.{has_depths}
-use Rattle.dcg_moves.specs.Layers.{Layers}
-use Rattle.dcg_moves.specs.Between.{layers}
-use Rattle.dcg_moves.specs.Local.{is_kept, is_open, has_all}
-use Rattle.dcg_moves.specs.Agree.{weight}
 use Rattle.flux_model.specs.Costs.{has_moved, is_end, touched}
 use Rattle.dcg_moves.proofs.MoveCost.{moved_cost, sum_pairs, sum_scaled}
+use Rattle.dcg_moves.specs.Layers.{Layers}
+use Rattle.dcg_moves.specs.Rows.{has_all, is_kept, is_open}
+use Rattle.dcg_moves.specs.Weight.{weight}
+use Rattle.dcg_moves.specs.Between.{layers}
 
 -- a test that fails says that both states are as they were
 unmoved : (a b c d x : Bool) → (not ((a && b || not a && not b) && (c && d || not c && not d)) || x) ≡ false → (b ≡ a) × (d ≡ c)

@@ -1,9 +1,13 @@
 pub mod Layers
-pub mod Store
+pub mod Rows
+pub mod Shape
 pub mod Local
-pub mod Moves
-pub mod Tree
+pub mod Sound
 pub mod Agree
+pub mod Moves
+pub mod JointOver
 pub mod Scan
+pub mod Weight
+pub mod Store
 pub mod Between
 pub mod Update

@@ -1,0 +1,141 @@
+use Rattle.std.proofs.Common.{◌≡◌, ◌≢◌, ℕ, Bool, refl, sym, ap, ◌∙◌, subst, arith, inl, inr}
+use Rattle.std.specs.Prelude.{None, Some}
+use Rattle.std.proofs.lemmas.Bool.{cases_eq}
+use Rattle.flux_model.specs.Exact.{row_at}
+use Rattle.dcg_moves.specs.Shape.{IsShapeOf}
+use Rattle.dcg_moves.specs.Local.{IsLocal, IsLocalWith}
+use Rattle.dcg_moves.specs.Update.{view, nothing, label_cost, edges_cost}
+use Rattle.dcg_moves.proofs.StoreLemmas.{after, still_store}
+use Rattle.dcg_moves.proofs.Bridge.{bridge_delete, bridge_skip, bridge_none}
+use Rattle.dcg_moves.proofs.UpdateLemmas.{away_next, ahead_off, behind_off, seen_off, lower_in, lower_from, store_in, sound_in, sound_from, weight_in, joint_read, edges_more, cost_linked, cost_labelled}
+use Rattle.dcg_moves.proofs.delete.delete_joints.Goals as goal
+
+-- the root has no tree edge
+pub loop-u-preserved-then-u-root : goal.loop-u-preserved-then-u-root
+loop-u-preserved-then-u-root g c =
+    let u = c.loop-u.u in
+    let inv = c.loop-u.invariant in
+    record {
+      update = inv.update;
+      same_ids = inv.same_ids;
+      same_degree = inv.same_degree;
+      seen = inv.seen;
+      exact = inv.exact;
+      sound = inv.sound;
+      same = inv.same;
+      ahead = λ z le. inv.ahead z (omega arith);
+      behind = λ z low lt. elim (cases_eq z u) [
+        | inl is ↦ absurd (low.apart (is ∙ c.if-u-root.true ∙ c.root.ensures.root ∙ (c.requires.shape nothing).root))
+        | inr ne ↦ inv.behind z low (omega arith)
+      ];
+      cost = omega (arith, inv.cost, edges_more (g.N.EdgeRows.update c.args.rows.now) u);
+    }
+
+-- the triple is no joint of u's tree edge
+pub loop-u-preserved-in_default : goal.loop-u-preserved-in_default
+loop-u-preserved-in_default g c =
+    let up = g.N.EdgeRows.update c.args.rows.now in
+    let u = c.loop-u.u in
+    let done = g.N.EdgeRows.done c.loop-u.rows in
+    let done' = g.N.EdgeRows.done c.retreat.new.self in
+    let inv = c.loop-u.invariant in
+    let a = c.in_default.ensures in
+    let apart : u ≢ up.tree.root = λ e. c.if-u-root.false (e ∙ sym (c.requires.shape nothing).root ∙ sym c.root.ensures.root) in
+    record {
+      update = a.update ∙ inv.update;
+      same_ids = a.ids ∙ inv.same_ids;
+      same_degree = a.degree ∙ inv.same_degree;
+      seen = seen_off inv.update a.seen;
+      sound = inv.sound;
+      same = inv.same;
+      exact = bridge_skip up.pattern up.tree up.small up.large up.triple done done' u (row_at c.loop-u.dcg) c.requires.more (λ z ne. sym (away_next done' done u a.done z ne)) (joint_read inv.update a.joint) inv.exact;
+      ahead = ahead_off done done' u a.done inv.ahead;
+      behind = λ z low lt. behind_off done done' u a.done a.fresh z lt (inv.behind z low);
+      cost = omega (arith, inv.cost, a.step, edges_more up u, cost_labelled up u apart, ap (λ k. label_cost k u) inv.update);
+    }
+
+pub retreat-requires-clause-lower : goal.retreat-requires-clause-lower
+retreat-requires-clause-lower g c = lower_in c.loop-u.invariant.seen (c.requires.shape nothing) c.loop-u-test.true (λ e. c.if-u-root.false (e ∙ sym c.root.ensures.root))
+
+pub retreat-requires-clause-behind : goal.retreat-requires-clause-behind
+retreat-requires-clause-behind g c = let inv = c.loop-u.invariant in λ z low lt. inv.behind z (lower_from inv.seen low) lt
+
+-- ---- the triple is its joint
+
+pub delete_joint-requires-clause-shape : goal.delete_joint-requires-clause-shape
+delete_joint-requires-clause-shape g c =
+    let a = c.in-Some.ensures in
+    let inv = c.loop-u.invariant in
+    subst (λ s. IsShapeOf s c.args.tree.now) (sym (seen_off inv.update a.seen)) (c.requires.shape (g.N.EdgeRows.done c.retreat.new.self))
+
+pub delete_joint-requires-clause-lower : goal.delete_joint-requires-clause-lower
+delete_joint-requires-clause-lower g c =
+    let a = c.in-Some.ensures in
+    let inv = c.loop-u.invariant in
+    lower_in (seen_off inv.update a.seen) (c.requires.shape nothing) c.loop-u-test.true (λ e. c.if-u-root.false (e ∙ sym c.root.ensures.root))
+
+pub delete_joint-requires-clause-store : goal.delete_joint-requires-clause-store
+delete_joint-requires-clause-store g c =
+    let a = c.in-Some.ensures in
+    let inv = c.loop-u.invariant in
+    store_in (seen_off inv.update a.seen) (still_store c.requires.store inv.same)
+
+pub delete_joint-requires-clause-sound : goal.delete_joint-requires-clause-sound
+delete_joint-requires-clause-sound g c =
+    let a = c.in-Some.ensures in
+    let inv = c.loop-u.invariant in
+    sound_in (seen_off inv.update a.seen) (a.ids ∙ inv.same_ids) inv.sound
+
+pub delete_joint-requires-clause-before : goal.delete_joint-requires-clause-before
+delete_joint-requires-clause-before g c =
+    let up = g.N.EdgeRows.update c.args.rows.now in
+    let u = c.loop-u.u in
+    let r = row_at c.loop-u.dcg in
+    let inv = c.loop-u.invariant in
+    let a = c.in-Some.ensures in
+    let joint = record { above = c.in-Some.x; below = c.in-Some.y } in
+    let more = bridge_delete up.pattern up.tree up.small up.large up.triple (g.N.EdgeRows.done c.retreat.new.self) u joint r c.requires.more a.fresh (joint_read inv.update a.joint)
+    (subst (λ d. IsLocal (view up d) r) a.done inv.exact) in
+    subst (λ s. IsLocalWith s u c.in-Some.x c.in-Some.y r) (sym (seen_off inv.update a.seen)) more
+
+pub loop-u-preserved : goal.loop-u-preserved
+loop-u-preserved g c =
+    let up = g.N.EdgeRows.update c.args.rows.now in
+    let u = c.loop-u.u in
+    let done = g.N.EdgeRows.done c.loop-u.rows in
+    let done' = g.N.EdgeRows.done c.retreat.new.self in
+    let inv = c.loop-u.invariant in
+    let a = c.in-Some.ensures in
+    let e = c.delete_joint.ensures in
+    let seen = seen_off inv.update a.seen in
+    let ids = a.ids ∙ inv.same_ids in
+    let degree = a.degree ∙ inv.same_degree in
+    let apart : u ≢ up.tree.root = λ f. c.if-u-root.false (f ∙ sym (c.requires.shape nothing).root ∙ sym c.root.ensures.root) in
+    let steps = cost_linked up u (record { above = c.in-Some.x; below = c.in-Some.y }) apart (joint_read inv.update a.joint) in
+    record {
+      update = a.update ∙ inv.update;
+      same_ids = ids;
+      same_degree = degree;
+      seen = seen;
+      same = after e.same inv.same;
+      exact = subst (λ s. IsLocal s (row_at c.delete_joint.new.dcg)) seen e.exact;
+      sound = sound_from seen ids e.sound;
+      ahead = ahead_off done done' u a.done inv.ahead;
+      behind = λ z low lt. behind_off done done' u a.done a.fresh z lt (inv.behind z low);
+      cost = omega (arith, inv.cost, a.step, e.cost, weight_in seen ids degree (row_at c.loop-u.dcg), weight_in seen ids degree (row_at c.delete_joint.new.dcg), edges_more up u, steps, ap (λ k. label_cost k u) inv.update);
+    }
+
+-- ---- every tree edge is done
+
+pub returns-clause-exact : goal.returns-clause-exact
+returns-clause-exact g c =
+    let up = g.N.EdgeRows.update c.args.rows.now in
+    let inv = c.loop-u.invariant in
+    bridge_none up.pattern up.tree up.small up.large (g.N.EdgeRows.done c.loop-u.rows) (row_at c.loop-u.dcg)
+    (λ z low. inv.behind z (record { inside = low.inside; apart = low.apart }) (omega (arith, (c.requires.shape nothing).count, c.loop-u-test.false, low.inside))) inv.exact
+
+pub returns-clause-cost : goal.returns-clause-cost
+returns-clause-cost g c =
+    let up = g.N.EdgeRows.update c.args.rows.now in
+    let end : c.loop-u.u ≡ (view up nothing).count = omega (arith, (c.requires.shape nothing).count, c.loop-u-test.false, c.loop-u.auto.u-end) in
+    omega (arith, c.loop-u.invariant.cost, ap (edges_cost up) end)
