@@ -408,10 +408,10 @@ insert_counted s t ids u x y r r' shape lower sound b stands one below sound' = 
           | inr ne ↦ let a : bit (x == v) ≡ 0 = ap bit (ne_eqb x v (λ f. ne (sym f))) in let c : bit (v == x) ≡ 0 = ap bit (ne_eqb v x ne) in omega (arith, a, c)
         ]
 
-module _ {s : Layers} {t : QueryTree} {ids : List ℕ} {u x y : ℕ} {r : Rows} (shape : IsShapeOf s t) (counted : Counted s t u x y r) where
-  debt_open : is_open r u y ≡ true → OutsDebtAt s t r u (x ∷ []) []
-  debt_open opens = subst (λ b. OutsDebtAt s t r u (cond b (x ∷ []) []) []) opens counted.late
+pub debt_open : {s : Layers} {t : QueryTree} {u x y : ℕ} {r : Rows} → Counted s t u x y r → is_open r u y ≡ true → OutsDebtAt s t r u (x ∷ []) []
+debt_open {s} {t} {u} {x} {y} {r} counted opens = subst (λ b. OutsDebtAt s t r u (cond b (x ∷ []) []) []) opens counted.late
 
+module _ {s : Layers} {t : QueryTree} {ids : List ℕ} {u x y : ℕ} {r : Rows} (shape : IsShapeOf s t) (counted : Counted s t u x y r) where
   -- y is not open
   pub insert_shut : IsSound s ids r → is_open r u y ≡ false → IsLocal s r
   insert_shut sound shut = local_of_agrees s t ids r shape sound (nearly_all shape counted.nearly (subst (λ b. OutsDebtAt s t r u (cond b (x ∷ []) []) []) shut counted.late))
@@ -419,7 +419,7 @@ module _ {s : Layers} {t : QueryTree} {ids : List ℕ} {u x y : ℕ} {r : Rows} 
   -- x counts it too
   pub insert_open : {last : Rows} → IsSound s ids last → is_open r u y ≡ true → OneOutMore s t u x r last → MovesAbove s t u r last → IsLocal s last
   insert_open {last} sound opens one moved =
-      local_of_agrees s t ids last shape sound (nearly_after shape counted.nearly moved (paid moved x (x ∷ []) [] refl one (debt_open opens)))
+      local_of_agrees s t ids last shape sound (nearly_after shape counted.nearly moved (paid moved x (x ∷ []) [] refl one (debt_open counted opens)))
 
 -- ---- a deletion: the joint is counted off at x, and then from y
 

@@ -14,7 +14,7 @@ use Rattle.dcg_moves.specs.Weight.{weight}
 use Rattle.dcg_moves.specs.Rows.{Rows}
 use Rattle.dcg_moves.specs.Sound.{IsSound}
 use Rattle.dcg_moves.specs.Between.{and_at}
-use Rattle.dcg_moves.specs.Update.{Update, edge_cost, edges_cost, label_cost, labels_cost, view}
+use Rattle.dcg_moves.specs.Update.{Update, nothing, view, joint_in, label_cost, labels_cost, edge_cost, edges_cost}
 
 or_none : (b : Bool) → (b || false) ≡ b
 or_none true = refl
@@ -42,39 +42,39 @@ behind_next done done' u e z lt behind =
 -- ---- the layers
 
 -- as they are seen after a tree edge is done, and after it is no more
-pub seen_on : {up up' : Update} {s : Layers} {done done' : ℕ → Bool} {u : ℕ} → up' ≡ up → done' ≡ and_at done u → s ≡ view up' (and_at done u) → s ≡ view up done'
-seen_on same more seen = seen ∙ (λ i. view (same i) (sym more i))
+pub seen_on : {up up' : Update} {s : Layers} (done : ℕ → Bool) {done' : ℕ → Bool} (u : ℕ) → up' ≡ up → done' ≡ and_at done u → s ≡ view up' (and_at done u) → s ≡ view up done'
+seen_on done u same more seen = seen ∙ (λ i. view (same i) (sym more i))
 
-pub seen_off : {up up' : Update} {s : Layers} {done : ℕ → Bool} → up' ≡ up → s ≡ view up' done → s ≡ view up done
-seen_off {done = done} same seen = seen ∙ (λ i. view (same i) done)
-
--- which of the layers hang from another, and which numbers of children there are, no joint changes
-pub lower_in : {s : Layers} {up : Update} {done : ℕ → Bool} {t : QueryTree} {u : ℕ} → s ≡ view up done → IsShapeOf (view up nothing) t → u < length t.links → u ≢ t.root → IsLower s u
-lower_in {u = u} seen shape inside apart =
-    subst (λ s. IsLower s u) (sym seen) (record { inside = (let n = shape.count in omega (arith, n, inside)); apart = λ e. apart (e ∙ sym shape.root) })
-
-pub lower_from : {s : Layers} {up : Update} {done : ℕ → Bool} {u : ℕ} → s ≡ view up done → IsLower s u → IsLower (view up nothing) u
-lower_from {u = u} seen low = let here = subst (λ s. IsLower s u) seen low in record { inside = here.inside; apart = here.apart }
-
-pub store_in : {s : Layers} {up : Update} {done : ℕ → Bool} {d : StateRows} → s ≡ view up done → IsStoreOf (view up nothing) d → IsStoreOf s d
-store_in {d = d} seen store = subst (λ s. IsStoreOf s d) (sym seen) (record { whole = store.whole; each = store.each; widths = store.widths })
+pub seen_off : {up up' : Update} {s : Layers} (done : ℕ → Bool) → up' ≡ up → s ≡ view up' done → s ≡ view up done
+seen_off done same seen = seen ∙ (λ i. view (same i) done)
 
 -- what every move keeps does not see the joints
 pub sound_view : (up : Update) (done done' : ℕ → Bool) (ids : List ℕ) (r : Rows) → IsSound (view up done) ids r → IsSound (view up done') ids r
 sound_view up done done' ids r sound = record { kept = sound.kept; wide = sound.wide; within = sound.within }
 
-pub sound_in : {s : Layers} {up : Update} {done : ℕ → Bool} {ids ids' : List ℕ} {r : Rows} → s ≡ view up done → ids' ≡ ids → IsSound (view up nothing) ids r → IsSound s ids' r
-sound_in {s} {up} {done} {ids} {ids'} {r} seen same sound = subst (λ s. IsSound s ids' r) (sym seen) (sound_view up nothing done ids' r (subst (λ i. IsSound (view up nothing) i r) (sym same) sound))
+-- nor does what hangs from what, the numbers of children, and the weight
+module _ (up : Update) (done : ℕ → Bool) {s : Layers} (seen : s ≡ view up done) where
+  pub lower_in : {t : QueryTree} {u : ℕ} → IsShapeOf (view up nothing) t → u < length t.links → u ≢ t.root → IsLower s u
+  lower_in {u = u} shape inside apart =
+      subst (λ s. IsLower s u) (sym seen) (record { inside = (let n = shape.count in omega (arith, n, inside)); apart = λ e. apart (e ∙ sym shape.root) })
 
-pub sound_from : {s : Layers} {up : Update} {done : ℕ → Bool} {ids ids' : List ℕ} {r : Rows} → s ≡ view up done → ids' ≡ ids → IsSound s ids' r → IsSound (view up nothing) ids r
-sound_from {s} {up} {done} {ids} {ids'} {r} seen same sound = sound_view up done nothing ids r (subst (λ i. IsSound (view up done) i r) same (subst (λ s. IsSound s ids' r) seen sound))
+  pub lower_from : {u : ℕ} → IsLower s u → IsLower (view up nothing) u
+  lower_from {u} low = let here = subst (λ s. IsLower s u) seen low in record { inside = here.inside; apart = here.apart }
 
--- nor does the weight
-pub weight_in : {s : Layers} {up : Update} {done : ℕ → Bool} {ids ids' : List ℕ} {degree degree' : ℕ → ℕ} → s ≡ view up done → ids' ≡ ids → degree' ≡ degree → (r : Rows) → weight s ids' degree' r ≡ weight (view up nothing) ids degree r
-weight_in seen same alike r = λ i. weight (seen i) (same i) (alike i) r
+  pub store_in : {d : StateRows} → IsStoreOf (view up nothing) d → IsStoreOf s d
+  store_in {d} store = subst (λ s. IsStoreOf s d) (sym seen) (record { whole = store.whole; each = store.each; widths = store.widths })
 
-pub joint_read : {up up' : Update} {u : ℕ} {o : Option Joint} → up' ≡ up → joint_in up' u ≡ o → joint_in up u ≡ o
-joint_read {u = u} same is = ap (λ k. joint_in k u) (sym same) ∙ is
+  pub sound_in : {ids ids' : List ℕ} {r : Rows} → ids' ≡ ids → IsSound (view up nothing) ids r → IsSound s ids' r
+  sound_in {ids} {ids'} {r} same sound = subst (λ s. IsSound s ids' r) (sym seen) (sound_view up nothing done ids' r (subst (λ i. IsSound (view up nothing) i r) (sym same) sound))
+
+  pub sound_from : {ids ids' : List ℕ} {r : Rows} → ids' ≡ ids → IsSound s ids' r → IsSound (view up nothing) ids r
+  sound_from {ids} {ids'} {r} same sound = sound_view up done nothing ids r (subst (λ i. IsSound (view up done) i r) same (subst (λ s. IsSound s ids' r) seen sound))
+
+  pub weight_in : {ids ids' : List ℕ} {degree degree' : ℕ → ℕ} → ids' ≡ ids → degree' ≡ degree → (r : Rows) → weight s ids' degree' r ≡ weight (view up nothing) ids degree r
+  weight_in same alike r = λ i. weight (seen i) (same i) (alike i) r
+
+pub joint_read : {up up' : Update} (u : ℕ) {o : Option Joint} → up' ≡ up → joint_in up' u ≡ o → joint_in up u ≡ o
+joint_read u same is = ap (λ k. joint_in k u) (sym same) ∙ is
 
 pub behind_off : (done done' : ℕ → Bool) (u : ℕ) → done ≡ and_at done' u → done' u ≡ false → (z : ℕ) → z < u + 1 → (z < u → done z ≡ false) → done' z ≡ false
 behind_off done done' u e fresh z lt behind =

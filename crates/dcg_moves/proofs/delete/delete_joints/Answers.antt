@@ -2,6 +2,7 @@ use Rattle.std.proofs.Common.{◌≡◌, ◌≢◌, ℕ, Bool, refl, sym, ap, �
 use Rattle.std.specs.Prelude.{None, Some}
 use Rattle.std.proofs.lemmas.Bool.{cases_eq}
 use Rattle.flux_model.specs.Exact.{row_at}
+use Rattle.flux_model.specs.States.{Joint}
 use Rattle.dcg_moves.specs.Shape.{IsShapeOf}
 use Rattle.dcg_moves.specs.Local.{IsLocal, IsLocalWith}
 use Rattle.dcg_moves.specs.Update.{view, nothing, label_cost, edges_cost}
@@ -45,20 +46,20 @@ loop-u-preserved-in_default g c =
       update = a.update ∙ inv.update;
       same_ids = a.ids ∙ inv.same_ids;
       same_degree = a.degree ∙ inv.same_degree;
-      seen = seen_off inv.update a.seen;
+      seen = seen_off (g.N.EdgeRows.done c.retreat.new.self) inv.update a.seen;
       sound = inv.sound;
       same = inv.same;
-      exact = bridge_skip up.pattern up.tree up.small up.large up.triple done done' u (row_at c.loop-u.dcg) c.requires.more (λ z ne. sym (away_next done' done u a.done z ne)) (joint_read inv.update a.joint) inv.exact;
+      exact = bridge_skip up.pattern up.tree up.small up.large up.triple done done' u (row_at c.loop-u.dcg) c.requires.more (λ z ne. sym (away_next done' done u a.done z ne)) (joint_read u inv.update a.joint) inv.exact;
       ahead = ahead_off done done' u a.done inv.ahead;
       behind = λ z low lt. behind_off done done' u a.done a.fresh z lt (inv.behind z low);
       cost = omega (arith, inv.cost, a.step, edges_more up u, cost_labelled up u apart, ap (λ k. label_cost k u) inv.update);
     }
 
 pub retreat-requires-clause-lower : goal.retreat-requires-clause-lower
-retreat-requires-clause-lower g c = lower_in c.loop-u.invariant.seen (c.requires.shape nothing) c.loop-u-test.true (λ e. c.if-u-root.false (e ∙ sym c.root.ensures.root))
+retreat-requires-clause-lower g c = lower_in (g.N.EdgeRows.update c.args.rows.now) (g.N.EdgeRows.done c.loop-u.rows) c.loop-u.invariant.seen (c.requires.shape nothing) (omega (arith, c.loop-u-test.true, c.vertex_count-u-end.ensures)) (λ e. c.if-u-root.false (e ∙ sym c.root.ensures.root))
 
 pub retreat-requires-clause-behind : goal.retreat-requires-clause-behind
-retreat-requires-clause-behind g c = let inv = c.loop-u.invariant in λ z low lt. inv.behind z (lower_from inv.seen low) lt
+retreat-requires-clause-behind g c = let inv = c.loop-u.invariant in λ z low lt. inv.behind z (lower_from (g.N.EdgeRows.update c.args.rows.now) (g.N.EdgeRows.done c.loop-u.rows) inv.seen low) lt
 
 -- ---- the triple is its joint
 
@@ -66,25 +67,25 @@ pub delete_joint-requires-clause-shape : goal.delete_joint-requires-clause-shape
 delete_joint-requires-clause-shape g c =
     let a = c.in-Some.ensures in
     let inv = c.loop-u.invariant in
-    subst (λ s. IsShapeOf s c.args.tree.now) (sym (seen_off inv.update a.seen)) (c.requires.shape (g.N.EdgeRows.done c.retreat.new.self))
+    subst (λ s. IsShapeOf s c.args.tree.now) (sym (seen_off (g.N.EdgeRows.done c.retreat.new.self) inv.update a.seen)) (c.requires.shape (g.N.EdgeRows.done c.retreat.new.self))
 
 pub delete_joint-requires-clause-lower : goal.delete_joint-requires-clause-lower
 delete_joint-requires-clause-lower g c =
     let a = c.in-Some.ensures in
     let inv = c.loop-u.invariant in
-    lower_in (seen_off inv.update a.seen) (c.requires.shape nothing) c.loop-u-test.true (λ e. c.if-u-root.false (e ∙ sym c.root.ensures.root))
+    lower_in (g.N.EdgeRows.update c.args.rows.now) (g.N.EdgeRows.done c.retreat.new.self) (seen_off (g.N.EdgeRows.done c.retreat.new.self) inv.update a.seen) (c.requires.shape nothing) (omega (arith, c.loop-u-test.true, c.vertex_count-u-end.ensures)) (λ e. c.if-u-root.false (e ∙ sym c.root.ensures.root))
 
 pub delete_joint-requires-clause-store : goal.delete_joint-requires-clause-store
 delete_joint-requires-clause-store g c =
     let a = c.in-Some.ensures in
     let inv = c.loop-u.invariant in
-    store_in (seen_off inv.update a.seen) (still_store c.requires.store inv.same)
+    store_in (g.N.EdgeRows.update c.args.rows.now) (g.N.EdgeRows.done c.retreat.new.self) (seen_off (g.N.EdgeRows.done c.retreat.new.self) inv.update a.seen) (still_store c.requires.store inv.same)
 
 pub delete_joint-requires-clause-sound : goal.delete_joint-requires-clause-sound
 delete_joint-requires-clause-sound g c =
     let a = c.in-Some.ensures in
     let inv = c.loop-u.invariant in
-    sound_in (seen_off inv.update a.seen) (a.ids ∙ inv.same_ids) inv.sound
+    sound_in (g.N.EdgeRows.update c.args.rows.now) (g.N.EdgeRows.done c.retreat.new.self) (seen_off (g.N.EdgeRows.done c.retreat.new.self) inv.update a.seen) (a.ids ∙ inv.same_ids) inv.sound
 
 pub delete_joint-requires-clause-before : goal.delete_joint-requires-clause-before
 delete_joint-requires-clause-before g c =
@@ -93,10 +94,10 @@ delete_joint-requires-clause-before g c =
     let r = row_at c.loop-u.dcg in
     let inv = c.loop-u.invariant in
     let a = c.in-Some.ensures in
-    let joint = record { above = c.in-Some.x; below = c.in-Some.y } in
-    let more = bridge_delete up.pattern up.tree up.small up.large up.triple (g.N.EdgeRows.done c.retreat.new.self) u joint r c.requires.more a.fresh (joint_read inv.update a.joint)
+    let joint : Joint = record { above = c.in-Some.x; below = c.in-Some.y } in
+    let more = bridge_delete up.pattern up.tree up.small up.large up.triple (g.N.EdgeRows.done c.retreat.new.self) u joint r c.requires.more a.fresh (joint_read u inv.update a.joint)
     (subst (λ d. IsLocal (view up d) r) a.done inv.exact) in
-    subst (λ s. IsLocalWith s u c.in-Some.x c.in-Some.y r) (sym (seen_off inv.update a.seen)) more
+    subst (λ s. IsLocalWith s u c.in-Some.x c.in-Some.y r) (sym (seen_off (g.N.EdgeRows.done c.retreat.new.self) inv.update a.seen)) more
 
 pub loop-u-preserved : goal.loop-u-preserved
 loop-u-preserved g c =
@@ -107,11 +108,11 @@ loop-u-preserved g c =
     let inv = c.loop-u.invariant in
     let a = c.in-Some.ensures in
     let e = c.delete_joint.ensures in
-    let seen = seen_off inv.update a.seen in
+    let seen = seen_off (g.N.EdgeRows.done c.retreat.new.self) inv.update a.seen in
     let ids = a.ids ∙ inv.same_ids in
     let degree = a.degree ∙ inv.same_degree in
     let apart : u ≢ up.tree.root = λ f. c.if-u-root.false (f ∙ sym (c.requires.shape nothing).root ∙ sym c.root.ensures.root) in
-    let steps = cost_linked up u (record { above = c.in-Some.x; below = c.in-Some.y }) apart (joint_read inv.update a.joint) in
+    let steps = cost_linked up u (record { above = c.in-Some.x; below = c.in-Some.y }) apart (joint_read u inv.update a.joint) in
     record {
       update = a.update ∙ inv.update;
       same_ids = ids;
@@ -119,10 +120,10 @@ loop-u-preserved g c =
       seen = seen;
       same = after e.same inv.same;
       exact = subst (λ s. IsLocal s (row_at c.delete_joint.new.dcg)) seen e.exact;
-      sound = sound_from seen ids e.sound;
+      sound = sound_from up done' seen ids e.sound;
       ahead = ahead_off done done' u a.done inv.ahead;
       behind = λ z low lt. behind_off done done' u a.done a.fresh z lt (inv.behind z low);
-      cost = omega (arith, inv.cost, a.step, e.cost, weight_in seen ids degree (row_at c.loop-u.dcg), weight_in seen ids degree (row_at c.delete_joint.new.dcg), edges_more up u, steps, ap (λ k. label_cost k u) inv.update);
+      cost = omega (arith, inv.cost, a.step, e.cost, weight_in up done' seen ids degree (row_at c.loop-u.dcg), weight_in up done' seen ids degree (row_at c.delete_joint.new.dcg), edges_more up u, steps, ap (λ k. label_cost k u) inv.update);
     }
 
 -- ---- every tree edge is done
@@ -132,10 +133,10 @@ returns-clause-exact g c =
     let up = g.N.EdgeRows.update c.args.rows.now in
     let inv = c.loop-u.invariant in
     bridge_none up.pattern up.tree up.small up.large (g.N.EdgeRows.done c.loop-u.rows) (row_at c.loop-u.dcg)
-    (λ z low. inv.behind z (record { inside = low.inside; apart = low.apart }) (omega (arith, (c.requires.shape nothing).count, c.loop-u-test.false, low.inside))) inv.exact
+    (λ z low. inv.behind z (record { inside = low.inside; apart = low.apart }) (omega (arith, (c.requires.shape nothing).count, c.loop-u-test.false, c.vertex_count-u-end.ensures, low.inside))) inv.exact
 
 pub returns-clause-cost : goal.returns-clause-cost
 returns-clause-cost g c =
     let up = g.N.EdgeRows.update c.args.rows.now in
-    let end : c.loop-u.u ≡ (view up nothing).count = omega (arith, (c.requires.shape nothing).count, c.loop-u-test.false, c.loop-u.auto.u-end) in
+    let end : c.loop-u.u ≡ (view up nothing).count = omega (arith, (c.requires.shape nothing).count, c.loop-u-test.false, c.vertex_count-u-end.ensures, c.loop-u.auto.u-end) in
     omega (arith, c.loop-u.invariant.cost, ap (edges_cost up) end)

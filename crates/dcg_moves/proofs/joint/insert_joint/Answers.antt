@@ -73,7 +73,7 @@ rise_out-requires g c =
       above = nearly_above q.shape counted.nearly;
       state = state ∙ ap state_of_row (sym still);
       stands = some;
-      room = debt_room s c.args.tree.now c.args.u c.args.x r' (c.args.x ∷ []) [] refl q.shape (debt_open q.shape counted opens) (ap is_some still ∙ stands);
+      room = debt_room s c.args.tree.now c.args.u c.args.x r' (c.args.x ∷ []) [] refl q.shape (debt_open counted opens) (ap is_some still ∙ stands);
     }
 
 pub returns : goal.returns
