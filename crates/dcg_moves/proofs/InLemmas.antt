@@ -1,5 +1,5 @@
 -- One in counter moved, up or down: what stays true of the rows, and what is late below a row that began or went.
-use Rattle.std.proofs.Common.{◌≡◌, ◌≢◌, ℕ, zero, suc, ◌+◌, ◌-◌, ◌<◌, ◌≤◌, Bool, true, false, ◌&&◌, cond, nat_lt, List, [], ◌∷◌, ◌⊎◌, inl, inr, refl, sym, ap, ◌∙◌, subst, arith, ◌==◌, length}
+use Rattle.std.proofs.Common.{◌≡◌, ◌≢◌, ℕ, zero, suc, ◌+◌, ◌-◌, ◌<◌, Bool, true, false, cond, nat_lt, List, inl, inr, refl, sym, ap, ◌∙◌, subst, arith, ◌==◌, length}
 use Rattle.std.specs.Prelude.{count_by, Option, None, Some, is_some, slice_index, replicate}
 use Rattle.std.specs.Option.{option_map_or}
 use Rattle.std.specs.List.{list_any}
@@ -7,18 +7,18 @@ use Rattle.std.proofs.lemmas.Bool.{eq-eqb, ne_eqb, cases_eq, lt-ltb, ltb-true}
 use Rattle.flux_model.specs.Exact.{Row}
 use Rattle.flux_model.specs.Tree.{QueryTree}
 use Rattle.query_tree.specs.Depth.{depth}
-use Rattle.dcg_store.specs.Counters.{is_full, first_row, more_ins, fewer_ins}
+use Rattle.dcg_store.specs.Counters.{first_row, more_ins, fewer_ins}
 use Rattle.dcg_store.proofs.CallerLemmas.{left_of}
-use Rattle.dcg_moves.specs.Layers.{Layers, IsLower, children, below_of}
+use Rattle.dcg_moves.specs.Layers.{Layers, children, below_of}
 use Rattle.dcg_moves.specs.Rows.{Rows, Changes, is_kept, ins_in, has_all, is_open}
-use Rattle.dcg_moves.specs.Shape.{IsShapeOf, number_in}
+use Rattle.dcg_moves.specs.Shape.{number_in}
 use Rattle.dcg_moves.specs.Sound.{KeptByIns, IsSound}
-use Rattle.dcg_moves.specs.Agree.{times, ins_seen, AgreesBelow}
+use Rattle.dcg_moves.specs.Agree.{times, AgreesBelow}
 use Rattle.dcg_moves.specs.Moves.{OneInMore, Frame}
-use Rattle.dcg_moves.specs.Scan.{Late, none, pending, Scan, HasBegun, HasGone}
-use Rattle.dcg_moves.proofs.Links.{bit, same_pair, begun, due_below, due_alike, seen_alike}
-use Rattle.dcg_moves.proofs.StateLemmas.{stands_row, none_row}
-use Rattle.dcg_moves.proofs.Weights.{Grows}
+use Rattle.dcg_moves.specs.Scan.{pending, HasBegun, HasGone}
+use Rattle.dcg_moves.proofs.JointCounts.{same_pair, begun, due_below, due_alike, seen_alike}
+use Rattle.dcg_moves.proofs.StateLemmas.{stands_row}
+use Rattle.dcg_moves.proofs.WeightLemmas.{Grows}
 use Rattle.dcg_moves.proofs.OutLemmas.{some_is}
 use Rattle.dcg_moves.proofs.LateLemmas.{none_counted, only_pending, pending_all, pending_among}
 

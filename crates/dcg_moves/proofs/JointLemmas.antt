@@ -1,10 +1,9 @@
 -- One joint of one tree edge, from exact to exact.
-use Rattle.std.proofs.Common.{◌≡◌, ◌≢◌, ℕ, zero, suc, ◌+◌, ◌<◌, ◌≤◌, ◌-◌, ◌^◌, Bool, true, false, ◌&&◌, cond, nat_lt, List, [], ◌∷◌, inl, inr, refl, sym, ap, ◌∙◌, subst, arith, ◌==◌, map, length, get_or}
-use Rattle.std.specs.Prelude.{filter, count_by, Option, None, Some, is_some, slice_get, slice_index}
+use Rattle.std.proofs.Common.{◌≡◌, ◌≢◌, ℕ, zero, suc, ◌+◌, ◌<◌, ◌≤◌, ◌-◌, ◌^◌, Bool, true, false, ◌&&◌, cond, List, [], ◌∷◌, inl, inr, refl, sym, ap, ◌∙◌, subst, arith, ◌==◌, map, length}
+use Rattle.std.specs.Prelude.{filter, count_by, None, Some, is_some, slice_get, slice_index}
 use Rattle.std.proofs.lemmas.Bool.{eq-eqb, ne_eqb, cases_eq, cases_lt, cases_Bool, lt-ltb}
 use Rattle.std.specs.Option.{ForSome}
 use Rattle.std.proofs.lemmas.List.Sums.{sum_by-cons, count_by-le-length}
-use Rattle.flux_model.specs.Exact.{Row}
 use Rattle.flux_model.specs.States.{Joint}
 use Rattle.flux_model.specs.Tree.{QueryTree}
 use Rattle.query_tree.specs.Depth.{depth}
@@ -17,7 +16,7 @@ use Rattle.dcg_moves.specs.Agree.{times, ins_seen, OutsAt, OutsDebtAt, OutsAbove
 use Rattle.dcg_moves.specs.Moves.{OneInMore, OneOutMore, MovesAbove}
 use Rattle.dcg_moves.specs.JointOver.{InsOverAt, OverAt}
 use Rattle.dcg_moves.specs.Scan.{none, at_child, pending, Scan}
-use Rattle.dcg_moves.proofs.Links.{bit, times-cons, due_alike, seen_alike}
+use Rattle.dcg_moves.proofs.JointCounts.{bit, times-cons, due_alike, seen_alike}
 use Rattle.dcg_moves.proofs.StateLemmas.{none_row}
 use Rattle.dcg_moves.proofs.UpLemmas.{paid, paid_off}
 use Rattle.dcg_moves.proofs.LateLemmas.{none_counted, at_here, at_other, only_pending, only_child, alike_end}
@@ -384,11 +383,11 @@ insert_counted s t ids u x y r r' shape lower sound b stands one below sound' = 
     d : depth t u ≡ suc (depth t p)
     d = shape.tree.deeper u lower.inside lower.apart
 
-    link : Entered s t ids p x u y [] [] r r'
-    link = rise_entered (insert_turn s t ids u x y r shape lower sound b stands) one below sound'
+    entered : Entered s t ids p x u y [] [] r r'
+    entered = rise_entered (insert_turn s t ids u x y r shape lower sound b stands) one below sound'
 
     scan : Scan s t p x (at_child u [] (pending s p x [])) none (at_child u (y ∷ []) (pending s p x [])) r'
-    scan = link.state.scan
+    scan = entered.state.scan
 
     before : Before s t p r'
     before = before_stays shape (shape.tree.parent u lower.inside lower.apart) (parent_rows s t u y r r' shape lower one.others) (before_without s t u x y r shape lower b)

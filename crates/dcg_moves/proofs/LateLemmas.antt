@@ -1,19 +1,17 @@
 -- The joints that are still to come, layer by layer.
-use Rattle.std.proofs.Common.{◌≡◌, ◌≢◌, ℕ, zero, suc, ◌+◌, ◌<◌, ◌≤◌, Bool, true, false, ◌&&◌, ◌||◌, not, cond, List, [], ◌∷◌, inl, inr, refl, sym, ap, ◌∙◌, subst, arith, ◌==◌}
-use Rattle.std.specs.Prelude.{filter, count_by, None, Some, is_some, IsPermutation, slice_index}
+use Rattle.std.proofs.Common.{◌≡◌, ◌≢◌, ℕ, ◌+◌, ◌≤◌, Bool, true, false, ◌&&◌, ◌||◌, not, cond, List, [], ◌∷◌, inl, inr, refl, sym, ap, ◌∙◌, subst, arith, ◌==◌}
+use Rattle.std.specs.Prelude.{filter, count_by, IsPermutation, slice_index}
 use Rattle.std.specs.List.{list_any, range_with_len}
 use Rattle.std.proofs.lemmas.Bool.{eq-eqb, ne_eqb, cases_eq, or_right, and_from}
 use Rattle.std.proofs.lemmas.List.Sorted.{sum_by-IsPermutation}
-use Rattle.flux_model.specs.Exact.{Row}
 use Rattle.flux_model.specs.Tree.{QueryTree}
-use Rattle.query_tree.specs.Depth.{depth}
 use Rattle.dcg_moves.specs.Layers.{Layers, IsLower, children, below_of}
 use Rattle.dcg_moves.specs.Rows.{Rows, is_open}
 use Rattle.dcg_moves.specs.Shape.{number_in}
 use Rattle.dcg_moves.specs.Agree.{times}
 use Rattle.dcg_moves.specs.Scan.{Late, none, at_child, pending, Scan}
-use Rattle.dcg_moves.proofs.Links.{bit}
-use Rattle.dcg_moves.proofs.Weights.{in_below}
+use Rattle.dcg_moves.proofs.JointCounts.{bit}
+use Rattle.dcg_moves.proofs.WeightLemmas.{in_below}
 
 pub none_counted : (b : Bool) (o : ℕ → Bool) → cond b (count_by o []) 0 ≡ 0
 none_counted true o = refl

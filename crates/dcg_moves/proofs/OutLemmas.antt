@@ -1,23 +1,21 @@
 -- One out counter moved, up or down: what stays counted.
-use Rattle.std.proofs.Common.{◌≡◌, ◌≢◌, ℕ, zero, suc, ◌+◌, ◌-◌, ◌*◌, ◌<◌, ◌≤◌, ◌^◌, Bool, true, false, ◌&&◌, cond, nat_lt, List, [], ◌∷◌, inl, inr, refl, sym, ap, ◌∙◌, subst, arith, ◌==◌, length, get_or-set_other, get_or-set_same, length-set}
-use Rattle.std.specs.Prelude.{Option, None, Some, is_some, slice_index, slice_set, slice_get}
+use Rattle.std.proofs.Common.{◌≡◌, ◌≢◌, ℕ, zero, suc, ◌+◌, ◌-◌, ◌<◌, ◌≤◌, true, false, cond, nat_lt, List, [], ◌∷◌, inl, inr, refl, sym, ap, ◌∙◌, subst, arith, ◌==◌, length, get_or-set_other, get_or-set_same, length-set}
+use Rattle.std.specs.Prelude.{None, Some, is_some, slice_index, slice_get}
 use Rattle.std.specs.Option.{option_map}
 use Rattle.std.specs.List.{list_all}
 use Rattle.std.proofs.lemmas.Bool.{and_parts, and_from, lt-ltb, ltb-true, eq-eqb, ne_eqb, cases_eq}
-use Rattle.flux_model.specs.Exact.{Row, StateRows, row_at}
+use Rattle.flux_model.specs.Exact.{Row}
 use Rattle.flux_model.specs.Tree.{QueryTree}
 use Rattle.query_tree.specs.Depth.{depth}
 use Rattle.dcg_store.specs.Counters.{is_full, more_outs, fewer_outs}
 use Rattle.dcg_moves.specs.Layers.{Layers, IsLower, children, above_of}
 use Rattle.dcg_moves.specs.Rows.{Rows, Changes, is_kept, ins_in, outs_in, has_all, is_open}
 use Rattle.dcg_moves.specs.Shape.{IsShapeOf, number_in}
-use Rattle.dcg_moves.specs.Local.{outs_due}
 use Rattle.dcg_moves.specs.Sound.{IsWide, IsSound}
-use Rattle.dcg_moves.specs.Agree.{times, OutsDebtAt, OutsAt, OutsAbove}
+use Rattle.dcg_moves.specs.Agree.{OutsDebtAt, OutsAt, OutsAbove}
 use Rattle.dcg_moves.specs.Moves.{MovesAbove, OneOutMore}
-use Rattle.dcg_moves.proofs.Links.{bit, same_pair, times-cons, opened, due_alike}
-use Rattle.dcg_moves.proofs.StateLemmas.{stands_row}
-use Rattle.dcg_moves.proofs.Weights.{Grows}
+use Rattle.dcg_moves.proofs.JointCounts.{bit, same_pair, opened, due_alike}
+use Rattle.dcg_moves.proofs.WeightLemmas.{Grows}
 
 -- the rows where the counter for u at (parent u, x) moved
 pub record OutMove (s : Layers) (t : QueryTree) (u x : ℕ) (row next : Row) (old new : Rows) : Type 0 where

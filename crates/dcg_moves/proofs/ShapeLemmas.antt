@@ -12,9 +12,9 @@ use Rattle.flux_model.specs.declared.tree.TreeLink.{TreeLink}
 use Rattle.flux_model.specs.declared.graph.Triple.{Triple}
 use Rattle.flux_model.specs.States.{Joint, Joined, joint_of, joined_by}
 use Rattle.query_tree.proofs.CallerLemmas.{linked, link_within, is_child_of, child_once, child_at, child_link}
-use Rattle.dcg_moves.proofs.LinkEnds.{ends_down, ends_up}
+use Rattle.dcg_moves.proofs.LinkEndLemmas.{ends_down, ends_up}
 use Rattle.dcg_moves.specs.Layers as layers
-use Rattle.dcg_moves.proofs.Lists.{In}
+use Rattle.dcg_moves.proofs.ListLemmas.{In}
 use Rattle.dcg_moves.proofs.JoinedLemmas.{JoinsFitting, children_same, tree}
 use Rattle.dcg_moves.proofs.PlaceLemmas.{place_stands}
 use Rattle.dcg_moves.specs.Layers.{Layers, layers_of}

@@ -99,8 +99,8 @@ range_more f (suc n) a =
 pub edges_more : (up : Update) (u : ℕ) → edges_cost up (u + 1) ≡ edges_cost up u + edge_cost up u
 edges_more up u = ap (edges_cost up) (add-one u) ∙ range_more (edge_cost up) u 0 ∙ ap (λ k. edges_cost up u + edge_cost up k) (let z : 0 + u ≡ u = omega arith in z)
 
-pub cost_linked : (up : Update) (u : ℕ) (l : Joint) → u ≢ up.tree.root → joint_in up u ≡ Some l → edge_cost up u ≡ label_cost up u + 6
-cost_linked up u l ne link =
+pub cost_joined : (up : Update) (u : ℕ) (l : Joint) → u ≢ up.tree.root → joint_in up u ≡ Some l → edge_cost up u ≡ label_cost up u + 6
+cost_joined up u l ne link =
     ap (λ b. cond b 0 (label_cost up u + cond (is_some (joint_in up u)) 6 0)) (ne_eqb u up.tree.root ne)
     ∙ ap (λ o. label_cost up u + cond (is_some o) 6 0) link
 

@@ -1,5 +1,4 @@
-use Rattle.std.proofs.Common.{◌≡◌, ◌≢◌, ℕ, Bool, refl, sym, ap, ◌∙◌, subst, arith, inl, inr}
-use Rattle.std.specs.Prelude.{None, Some}
+use Rattle.std.proofs.Common.{◌≡◌, ◌≢◌, sym, ap, ◌∙◌, subst, arith, inl, inr}
 use Rattle.std.proofs.lemmas.Bool.{cases_eq}
 use Rattle.flux_model.specs.Exact.{row_at}
 use Rattle.flux_model.specs.States.{Joint}
@@ -7,8 +6,8 @@ use Rattle.dcg_moves.specs.Shape.{IsShapeOf}
 use Rattle.dcg_moves.specs.Local.{IsLocal, IsLocalWith}
 use Rattle.dcg_moves.specs.Update.{view, nothing, label_cost, edges_cost}
 use Rattle.dcg_moves.proofs.StoreLemmas.{after, still_store}
-use Rattle.dcg_moves.proofs.Bridge.{bridge_delete, bridge_skip, bridge_none}
-use Rattle.dcg_moves.proofs.UpdateLemmas.{away_next, ahead_off, behind_off, seen_off, lower_in, lower_from, store_in, sound_in, sound_from, weight_in, joint_read, edges_more, cost_linked, cost_labelled}
+use Rattle.dcg_moves.proofs.ViewLemmas.{bridge_delete, bridge_skip, bridge_none}
+use Rattle.dcg_moves.proofs.UpdateLemmas.{away_next, ahead_off, behind_off, seen_off, lower_in, lower_from, store_in, sound_in, sound_from, weight_in, joint_read, edges_more, cost_joined, cost_labelled}
 use Rattle.dcg_moves.proofs.delete.delete_joints.Goals as goal
 
 -- the root has no tree edge
@@ -112,7 +111,7 @@ loop-u-preserved g c =
     let ids = a.ids ∙ inv.same_ids in
     let degree = a.degree ∙ inv.same_degree in
     let apart : u ≢ up.tree.root = λ f. c.if-u-root.false (f ∙ sym (c.requires.shape nothing).root ∙ sym c.root.ensures.root) in
-    let steps = cost_linked up u (record { above = c.in-Some.x; below = c.in-Some.y }) apart (joint_read u inv.update a.joint) in
+    let steps = cost_joined up u (record { above = c.in-Some.x; below = c.in-Some.y }) apart (joint_read u inv.update a.joint) in
     record {
       update = a.update ∙ inv.update;
       same_ids = ids;

@@ -1,8 +1,8 @@
-use Rattle.std.proofs.Common.{◌≡◌, ◌≢◌, true, sym, ap, ◌∙◌, arith}
+use Rattle.std.proofs.Common.{◌≢◌, sym, arith}
 use Rattle.flux_model.specs.Exact.{row_at}
 use Rattle.flux_model.specs.declared.state.State.TheVariants.{Null}
 use Rattle.dcg_moves.proofs.StateLemmas.{row_null, row_stands}
-use Rattle.dcg_moves.proofs.StoreLemmas.{after, still_store, parent_read, parent_vertex}
+use Rattle.dcg_moves.proofs.StoreLemmas.{after, still_store, parent_read}
 use Rattle.dcg_moves.proofs.UpLemmas.{state_read}
 use Rattle.dcg_moves.proofs.JointLemmas.{delete_null, over_of_large, over_below, over_stands, delete_counted}
 use Rattle.dcg_moves.proofs.joint.delete_joint.Goals as goal

@@ -1,11 +1,10 @@
-use Rattle.std.proofs.Common.{◌≡◌, ◌≢◌, ◌<◌, ◌-◌, ◌^◌, ℕ, [], ◌∷◌, true, sym, refl, ap, ◌∙◌, arith}
+use Rattle.std.proofs.Common.{◌≢◌, [], ◌∷◌, sym, refl, ap, ◌∙◌, arith}
 use Rattle.std.specs.Prelude.{is_some}
 use Rattle.flux_model.specs.Exact.{row_at}
 use Rattle.flux_model.specs.declared.state.State.TheVariants.{Null}
 use Rattle.dcg_store.specs.Counters.{state_of_row}
-use Rattle.dcg_moves.specs.Rows.{is_kept}
 use Rattle.dcg_moves.proofs.StateLemmas.{row_null, row_stands, full_explicit, part_other}
-use Rattle.dcg_moves.proofs.StoreLemmas.{after, still_store, parent_read, parent_vertex}
+use Rattle.dcg_moves.proofs.StoreLemmas.{after, still_store, parent_read}
 use Rattle.dcg_moves.proofs.UpLemmas.{state_read, debt_room, moves_sound}
 use Rattle.dcg_moves.proofs.JointLemmas.{insert_null, below_without, without_room, insert_counted, debt_open, nearly_above, insert_shut, insert_open, parent_stays}
 use Rattle.dcg_moves.proofs.joint.insert_joint.Goals as goal

@@ -1,7 +1,6 @@
-use Rattle.std.proofs.Common.{◌≡◌, [], ◌∷◌, refl, arith}
+use Rattle.std.proofs.Common.{[], ◌∷◌, refl, arith}
 use Rattle.flux_model.specs.Exact.{row_at}
 use Rattle.dcg_moves.proofs.StateLemmas.{row_stands, full_explicit, part_other}
-use Rattle.dcg_moves.proofs.StoreLemmas.{within_store}
 use Rattle.dcg_moves.proofs.UpLemmas.{debt_stock, moves_sound}
 use Rattle.dcg_moves.proofs.JointLemmas.{over_above, over_debt, off_shut, off_open}
 use Rattle.dcg_moves.proofs.joint.leave_parent.Goals as goal

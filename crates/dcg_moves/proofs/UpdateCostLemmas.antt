@@ -1,4 +1,4 @@
--- The steps of the tree edges, where the triple is a joint of one; and the whole of what an update spends.
+-- What the loops over the tree edges spend is within the cost of the move and two steps at each tree edge with the label.
 use Rattle.std.proofs.Common.{◌≡◌, ◌≢◌, ℕ, zero, suc, ◌+◌, ◌*◌, ◌<◌, ◌≤◌, Bool, true, false, ◌&&◌, ◌||◌, not, cond, nat_lt, List, [], ◌∷◌, inl, inr, refl, sym, ap, ◌∙◌, arith, add-one, ◌==◌, map}
 use Rattle.std.specs.Prelude.{sum_by, Option, None, Some, is_some, IsPermutation}
 use Rattle.std.specs.List.{range_with_len, list_any, slice_index_or}
@@ -17,11 +17,11 @@ use Rattle.flux_model.specs.declared.graph.Triple.{Triple}
 use Rattle.flux_model.specs.declared.graph.Vertex.{Vertex}
 use Rattle.flux_model.specs.declared.pattern.PatternEdge.{PatternEdge}
 use Rattle.flux_model.specs.declared.tree.TreeLink.{TreeLink}
-use Rattle.dcg_moves.proofs.LinkEnds.{apart, ends_down, ends_up}
+use Rattle.dcg_moves.proofs.LinkEndLemmas.{apart, ends_down, ends_up}
 use Rattle.flux_model.specs.Costs.{has_moved, is_end, touched, move_cost}
 use Rattle.dcg_moves.proofs.UpdateLemmas.{edges_more, labels_more}
-use Rattle.dcg_moves.proofs.Weights.{in_below}
-use Rattle.dcg_moves.proofs.MoveCost.{sum_pairs}
+use Rattle.dcg_moves.proofs.WeightLemmas.{in_below}
+use Rattle.dcg_moves.proofs.MoveCostLemmas.{sum_pairs}
 use Rattle.dcg_moves.specs.Update.{Update, edge_cost, edges_cost, label_cost, labels_cost}
 
 abbrev bit : Bool → ℕ
@@ -94,9 +94,9 @@ module _ (q : PatternGraph) (t : QueryTree) (belongs : BelongsTo q t) (large : G
       (and_from _ _ fit (or_left (p.tail == p.tail && e.src == e.src) (p.head == p.tail && e.dst == e.src) (and_from _ _ (eq-eqb p.tail p.tail refl) (eq-eqb e.src e.src refl))))
 
 -- where e is a joint of a tree edge, its source is touched
-pub linked_touched : (q : PatternGraph) (t : QueryTree) (small large : Graph) (e : Triple) (u : ℕ) (l : Joint) → BelongsTo q t → IsPermutation large.triples (e ∷ small.triples) →
+pub joint_touched : (q : PatternGraph) (t : QueryTree) (small large : Graph) (e : Triple) (u : ℕ) (l : Joint) → BelongsTo q t → IsPermutation large.triples (e ∷ small.triples) →
     joint_of q t large u e ≡ Some l → 2 ≤ sum_by (λ (p : ℕ × ℕ). 1 + degree large p.1) (touched q t small large e)
-linked_touched q t small large e u l belongs perm joint =
+joint_touched q t small large e u l belongs perm joint =
     let h : ℕ × ℕ → Bool = λ x. has_moved (joined q t small) (joined q t large) x.0 x.1 || is_end q large e x.0 x.1 in
     let a : ℕ = (p q t belongs large e u l joint).tail in
     let both = test q t belongs large e u l joint in
@@ -115,7 +115,7 @@ linked_touched q t small large e u l belongs perm joint =
         let b = sum_by-cons (λ (x : Triple). bit (x.src == e.src)) e small.triples in
         let one : bit (e.src == e.src) ≡ 1 = ap bit (eq-eqb e.src e.src refl) in omega (arith, a, b, one)
 
--- where a link costs three times the sum at most, all do
+-- where a joint costs three times the sum at most, all do
 edges_bound : (up : Update) (sum n : ℕ) → ((u : ℕ) → u < n → u ≢ up.tree.root → (l : Joint) → joint_of up.pattern up.tree up.large u up.triple ≡ Some l → 2 ≤ sum) →
     (k : ℕ) → k ≤ n → edges_cost up k ≤ labels_cost up k + 3 * (k * sum)
 edges_bound up sum n two zero le = omega arith
@@ -149,15 +149,15 @@ edges_bound up sum n two (suc k) le =
         let c = linked (label_cost up k) o (λ some. let l = value o some in two k (omega arith) (eqb-false k up.tree.root is) l.0 (link ∙ l.1)) in
         omega (arith, a, b, c)
 
--- the whole: what insert_links and delete_links may spend, in terms of the pairs that move
-pub update_cost : (up : Update) (s0 s1 w w' : ℕ) → BelongsTo up.pattern up.tree → IsPermutation up.large.triples (up.triple ∷ up.small.triples) →
+-- the whole: what `insert_joints` and `delete_joints` may spend, in terms of the pairs that move
+pub update_spent : (up : Update) (s0 s1 w w' : ℕ) → BelongsTo up.pattern up.tree → IsPermutation up.large.triples (up.triple ∷ up.small.triples) →
     s1 + w ≤ s0 + w' + edges_cost up (vertex_count up.pattern) →
     w' ≤ w + 12 * vertex_count up.pattern * sum_by (λ (p : ℕ × ℕ). 1 + degree up.large p.1) (touched up.pattern up.tree up.small up.large up.triple) →
     s1 ≤ s0 + move_cost up.pattern up.tree up.small up.large up.triple + labels_cost up (vertex_count up.pattern)
-update_cost up s0 s1 w w' tree perm spent grown =
+update_spent up s0 s1 w w' tree perm spent grown =
     let n = vertex_count up.pattern in
     let sum = sum_by (λ (p : ℕ × ℕ). 1 + degree up.large p.1) (touched up.pattern up.tree up.small up.large up.triple) in
-    let edges = edges_bound up sum n (λ u lt ne l link. linked_touched up.pattern up.tree up.small up.large up.triple u l tree perm link) n (omega arith) in
+    let edges = edges_bound up sum n (λ u lt ne l link. joint_touched up.pattern up.tree up.small up.large up.triple u l tree perm link) n (omega arith) in
     join s0 s1 w w' (edges_cost up n) (labels_cost up n) n sum spent grown edges
   where
     join : (s0 s1 w w' e l n sum : ℕ) → s1 + w ≤ s0 + w' + e → w' ≤ w + 12 * n * sum → e ≤ l + 3 * (n * sum) → s1 ≤ s0 + 16 * n * sum + l

@@ -1,4 +1,4 @@
--- What is spent grows by three quarters of the cost of the moves at most.
+-- Between exact rows over the smaller graph and over the larger, the weight grows by three quarters of the cost of the move at most.
 use Rattle.std.proofs.Common.{◌≡◌, ℕ, ◌+◌, ◌*◌, ◌≤◌, Bool, true, false, ◌&&◌, ◌||◌, not, cond, refl, sym, ap, ◌∙◌, arith, map}
 use Rattle.std.specs.Prelude.{sum_by, None, Some, is_some}
 use Rattle.std.specs.List.{range_with_len}
@@ -11,9 +11,9 @@ use Rattle.flux_model.specs.Exact.{Row, StateRows, row_at, in_count, out_count, 
 use Rattle.flux_model.specs.declared.graph.Triple.{Triple}
 use Rattle.query_tree.specs.Depth.{depth}
 use Rattle.dcg_store.proofs.StateLemmas.{full_is_extends}
-use Rattle.dcg_moves.proofs.LinkEnds.{has_depths}
+use Rattle.dcg_moves.proofs.LinkEndLemmas.{has_depths}
 use Rattle.flux_model.specs.Costs.{has_moved, is_end, touched}
-use Rattle.dcg_moves.proofs.MoveCost.{moved_cost, sum_pairs, sum_scaled}
+use Rattle.dcg_moves.proofs.MoveCostLemmas.{moved_cost, sum_pairs, sum_scaled}
 use Rattle.dcg_moves.specs.Layers.{Layers}
 use Rattle.dcg_moves.specs.Rows.{has_all, is_kept, is_open}
 use Rattle.dcg_moves.specs.Weight.{weight}

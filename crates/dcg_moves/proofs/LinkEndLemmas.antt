@@ -1,4 +1,4 @@
--- The tree edge of a vertex joins it to its parent, in one direction.
+-- The tree edge of a vertex leads to its parent, in one direction; and the depths of a tree are depths.
 use Rattle.std.proofs.Common.{◌≡◌, ◌≢◌, ℕ, true, false, ◌&&◌, ◌==◌, inl, inr, sym, ap, ◌∙◌, arith}
 use Rattle.std.specs.Prelude.{◌⊎◌, Some}
 use Rattle.std.proofs.lemmas.Bool.{and_parts, or_cases, eqb-true}
