@@ -283,13 +283,13 @@ stays s t c w r r' below row next was is same elsewhere = record {
 -- ---- what the move of the counter comes to, with the walk down from there
 
 -- one more, and what it leaves right below
-pub record In (s : Layers) (t : QueryTree) (u v : ℕ) (less more new : Rows) : Type 0 where
+pub record InMoved (s : Layers) (t : QueryTree) (u v : ℕ) (less more new : Rows) : Type 0 where
   pub counted : OneInMore t u v less more
   pub below : AgreesBelow s t new u
 
 module _ (s : Layers) (t : QueryTree) (u v : ℕ) (old new : Rows) where
   -- a row that stood before
-  pub in_again : (width : ℕ) → AgreesBelow s t old u → is_kept old u v ≡ true → Changes old new u v (entered width (old u v)) → In s t u v old new new
+  pub in_again : (width : ℕ) → AgreesBelow s t old u → is_kept old u v ≡ true → Changes old new u v (entered width (old u v)) → InMoved s t u v old new new
   in_again width below stood m =
       let row = stands_row (old u v) stood in
       record {
@@ -298,7 +298,7 @@ module _ (s : Layers) (t : QueryTree) (u v : ℕ) (old new : Rows) where
       }
 
   -- a new row, filled
-  pub in_new : (width : ℕ) (mid : Rows) → old u v ≡ None → Changes old mid u v (entered width (old u v)) → Frame t u v mid new → AgreesBelow s t new u → In s t u v old new new
+  pub in_new : (width : ℕ) (mid : Rows) → old u v ≡ None → Changes old mid u v (entered width (old u v)) → Frame t u v mid new → AgreesBelow s t new u → InMoved s t u v old new new
   in_new width mid absent m frame below = record {
     counted = record {
       ins = frame.ins ∙ in_ins u v width old mid m;
@@ -309,7 +309,7 @@ module _ (s : Layers) (t : QueryTree) (u v : ℕ) (old new : Rows) where
   }
 
   -- a row that stands still
-  pub left_again : AgreesBelow s t old u → 0 < ins_in (old u v) → is_kept new u v ≡ true → Changes old new u v (left_of (old u v)) → In s t u v new old new
+  pub left_again : AgreesBelow s t old u → 0 < ins_in (old u v) → is_kept new u v ≡ true → Changes old new u v (left_of (old u v)) → InMoved s t u v new old new
   left_again below some stands m =
       let left : is_some (left_of (old u v)) ≡ true = sym (ap is_some m.here) ∙ stands in
       let next = stands_row (left_of (old u v)) left in
@@ -324,7 +324,7 @@ module _ (s : Layers) (t : QueryTree) (u v : ℕ) (old new : Rows) where
       }
 
   -- a row that went, with what hung from it
-  pub left_gone : (mid : Rows) → KeptByIns new → 0 < ins_in (old u v) → mid u v ≡ None → Changes old mid u v (left_of (old u v)) → Frame t u v mid new → AgreesBelow s t new u → In s t u v new old new
+  pub left_gone : (mid : Rows) → KeptByIns new → 0 < ins_in (old u v) → mid u v ≡ None → Changes old mid u v (left_of (old u v)) → Frame t u v mid new → AgreesBelow s t new u → InMoved s t u v new old new
   left_gone mid kept some absent m frame below =
       let ins : ins_in (new u v) ≡ ins_in (left_of (old u v)) = frame.ins ∙ ap ins_in m.here in
       let none : ins_in (new u v) ≡ 0 = frame.ins ∙ ap ins_in absent in

@@ -1,9 +1,9 @@
 -- A tree that belongs to a pattern is the shape of its layers, whatever triples its edges see.
-use Rattle.std.proofs.Common.{◌≡◌, ℕ, zero, suc, ◌+◌, ◌-◌, ◌<◌, ◌≤◌, ◌^◌, Bool, true, false, ◌&&◌, not, cond, ◌==◌, nat_lt, List, [], ◌∷◌, length, inl, inr, refl, sym, ap, ◌∙◌, arith}
+use Rattle.std.proofs.Common.{◌≡◌, ℕ, zero, suc, ◌+◌, ◌-◌, ◌<◌, ◌≤◌, ◌^◌, Bool, true, false, ◌&&◌, not, cond, ◌==◌, nat_lt, List, [], ◌∷◌, length, refl, sym, ap, ◌∙◌, arith}
 use Rattle.std.specs.Prelude.{Option, None, Some, filter}
 use Rattle.std.specs.List.{list_any, list_all, range_with_len, filter_map, slice_get, slice_index}
 use Rattle.std.specs.Str.{bytes_eq}
-use Rattle.std.proofs.lemmas.Bool.{and_parts, and_from, ne_eqb, cases_eq, ltb-true}
+use Rattle.std.proofs.lemmas.Bool.{and_parts, and_from, ne_eqb, ltb-true}
 use Rattle.std.proofs.lemmas.Option.{slice_get-get_or}
 use Rattle.flux_model.specs.Graph.{Graph}
 use Rattle.flux_model.specs.Pattern.{PatternGraph, vertex_count, fits}
@@ -14,7 +14,7 @@ use Rattle.flux_model.specs.States.{Joint, Joined, joint_of, joined_by}
 use Rattle.query_tree.proofs.CallerLemmas.{linked, link_within, is_child_of, child_once, child_at, child_link}
 use Rattle.dcg_moves.proofs.LinkEndLemmas.{ends_down, ends_up}
 use Rattle.dcg_moves.specs.Layers as layers
-use Rattle.dcg_moves.proofs.ListLemmas.{In}
+use Rattle.flux_model.proofs.MemberLemmas.{in_filter, in_range, place_of}
 use Rattle.dcg_moves.proofs.JoinedLemmas.{JoinsFitting, children_same, tree}
 use Rattle.dcg_moves.proofs.PlaceLemmas.{place_stands}
 use Rattle.dcg_moves.specs.Layers.{Layers, layers_of}
@@ -65,25 +65,6 @@ module _ (q : PatternGraph) (t : QueryTree) (g : Graph) (belongs : BelongsTo q t
 
 -- ---- the places of children
 
-in_filtered : (p : ℕ → Bool) (x : ℕ) (xs : List ℕ) → In x xs → p x ≡ true → In x (filter p xs)
-in_filtered p x [] m h = m
-in_filtered p x (y ∷ ys) m h = by (p y) refl m (in_filtered p x ys)
-  where
-    by : (b : Bool) → p y ≡ b → In x (y ∷ ys) → (In x ys → p x ≡ true → In x (filter p ys)) → In x (cond b (y ∷ filter p ys) (filter p ys))
-    by true e (inl same) rest = inl same
-    by true e (inr m) rest = inr (rest m h)
-    by false e (inl same) rest = absurd (let bad : true ≡ false = sym h ∙ ap p same ∙ e in cc)
-    by false e (inr m) rest = rest m h
-
-in_numbers : (x a n : ℕ) → a ≤ x → x < a + n → In x (range_with_len a n)
-in_numbers x a zero low high = absurd (omega (arith, low, high))
-in_numbers x a (suc n) low high = elim (cases_eq x a) [ inl same ↦ inl same | inr other ↦ inr (in_numbers x (a + 1) n (omega (arith, low, other)) (omega (arith, high))) ]
-
-place_of_in : (x : ℕ) (xs : List ℕ) → In x xs → (k : ℕ) × (slice_get xs k ≡ Some x)
-place_of_in x [] m = absurd m
-place_of_in x (y ∷ ys) (inl same) = (0, ap Some (sym same))
-place_of_in x (y ∷ ys) (inr m) = let r = place_of_in x ys m in (suc r.0, r.1)
-
 none_lower : (p : ℕ → Bool) (x a n : ℕ) → x < a → list_any (λ y. y == x) (filter p (range_with_len a n)) ≡ false
 none_lower p x a zero h = refl
 none_lower p x a (suc n) h = by (p a) (none_lower p x (a + 1) n (omega (arith, h)))
@@ -106,7 +87,7 @@ module _ (j : Joined) (is : IsTree j.tree) (fitting : JoinsFitting j) where
   stands_below : (u : ℕ) (l : TreeLink) → link_at j.tree u ≡ Some l → slice_get (children j.tree l.parent) (number_in j.tree u) ≡ Some u
   stands_below u l e =
       let low = link_within j.tree u l e in
-      let k = place_of_in u (children j.tree l.parent) (in_filtered (is_child j.tree l.parent) u (range_with_len 0 (length j.tree.links)) (in_numbers u 0 (length j.tree.links) (omega arith) (omega (arith, low))) (is_child_of j.tree u l e)) in
+      let k = place_of (children j.tree l.parent) u (in_filter (is_child j.tree l.parent) (range_with_len 0 (length j.tree.links)) u (in_range 0 (length j.tree.links) u (omega arith) (omega (arith, low))) (is_child_of j.tree u l e)) in
       rw e (place_stands u (children j.tree l.parent) k.0 k.1)
 
   pub shape_of : ((u : ℕ) → length (j.joints u) < 2 ^ 32 - 1) → IsShapeOf (layers_of j) j.tree
