@@ -89,6 +89,7 @@ zeros_at (suc n) (suc k) = zeros_at n k
 -- ---- one joint more into (c, w)
 
 module _ (c w width : ℕ) (r r' : Rows) (m : Changes r r' c w (entered width (r c w))) where
+  -- it only adds
   pub in_grows : Grows r r'
   in_grows = record {
     keeps = λ z y was.
@@ -103,12 +104,15 @@ module _ (c w width : ℕ) (r r' : Rows) (m : Changes r r' c w (entered width (r
         ];
   }
 
+  -- the pair has a row
   pub in_stands : is_kept r' c w ≡ true
   in_stands = ap is_some m.here
 
+  -- its in counter is one more
   pub in_ins : ins_in (r' c w) ≡ ins_in (r c w) + 1
   in_ins = ap ins_in m.here ∙ entered_ins width (r c w)
 
+  -- what every move keeps
   pub in_sound : (s : Layers) (ids : List ℕ) → width ≡ length (children s c) → c < s.count → list_any (λ z. z == w) ids ≡ true → IsSound s ids r → IsSound s ids r'
   in_sound s ids wide inside member sound = record {
     kept = λ z y.
@@ -180,6 +184,7 @@ module _ (c w width : ℕ) (r r' : Rows) (m : Changes r r' c w (entered width (r
 -- ---- one joint less into (c, w), which has a row
 
 module _ (c w : ℕ) (r r' : Rows) (m : Changes r r' c w (left_of (r c w))) where
+  -- it only takes away
   pub in_shrinks : Grows r' r
   in_shrinks = record {
     keeps = λ z y was.
@@ -202,6 +207,7 @@ module _ (c w : ℕ) (r r' : Rows) (m : Changes r r' c w (left_of (r c w))) wher
       full o None e h = absurd (let bad : false ≡ true = h in cc)
       full o (Some next) e h = left_alike o (ap is_some e) ∙ ap has_all e ∙ h
 
+  -- what every move keeps
   pub left_sound : (s : Layers) (ids : List ℕ) → 0 < ins_in (r c w) → IsSound s ids r → IsSound s ids r'
   left_sound s ids some sound = record {
     kept = λ z y.

@@ -49,6 +49,7 @@ agrees_of_local s t r root parent number local = record {
       ∙ slice_of_map (outs_due s r x) (children s (s.parent c)) (number_in t c) c (number c low.inside low.apart) in omega (arith, a);
 }
 
+-- all together
 pub local_of_agrees : (s : Layers) (t : QueryTree) (ids : List ℕ) (r : Rows) → IsShapeOf s t → IsSound s ids r → Agrees s t r → IsLocal s r
 local_of_agrees s t ids r shape sound agrees = record {
   kept = sound.kept;
@@ -139,10 +140,12 @@ module _ (s : Layers) (t : QueryTree) (ids : List ℕ) (u x y : ℕ) (r : Rows) 
       no true = refl
       no false = refl
 
+-- where the rows lack one
 pub insert_null : (s : Layers) (t : QueryTree) (ids : List ℕ) (u x y : ℕ) (r : Rows) → IsShapeOf s t → IsSound s ids r → IsLocalWithout s u x y r → r (s.parent u) x ≡ None → IsLocal s r
 insert_null s t ids u x y r shape sound b absent =
     joint_null s t ids u x y r b.rest shape sound absent (λ p out. let same = b.same p in let zero = ap bit out in omega (arith, same, zero)) (small_agrees s t u x y r shape b)
 
+-- where they have one too many
 pub delete_null : (s : Layers) (t : QueryTree) (ids : List ℕ) (u x y : ℕ) (r : Rows) → IsShapeOf s t → IsSound s ids r → IsLocalWith s u x y r → r (s.parent u) x ≡ None → IsLocal s r
 delete_null s t ids u x y r shape sound b absent =
     joint_null s t ids u x y r b.more shape sound absent (λ p out. let same = b.same p in let zero = ap bit out in omega (arith, same, zero)) (large_agrees s t u x y r shape b)
@@ -310,6 +313,7 @@ module _ {s : Layers} {t : QueryTree} (shape : IsShapeOf s t) where
     outs = λ c low ne. elim (cases_lt (depth t p) (depth t c)) [ inl deep ↦ outs c low deep ne | inr high ↦ before.outs c low high ];
   }
 
+  -- the layers above agree
   pub nearly_above : {u : ℕ} {r : Rows} → Nearly s t u r → OutsAbove s t r u
   nearly_above n c low high = n.outs c low (λ e. let f = ap (depth t) e in absurd (omega (arith, f, high)))
 
@@ -363,6 +367,7 @@ parent_rows s t u y r r' shape lower others z w high =
     let d = shape.tree.deeper u lower.inside lower.apart in
     others z w (omega (arith, d, high)) (λ q. let f = ap (depth t) q.0 in absurd (omega (arith, f, d, high)))
 
+-- which is so, whether y had a row or not
 pub insert_counted : (s : Layers) (t : QueryTree) (ids : List ℕ) (u x y : ℕ) (r r' : Rows) → IsShapeOf s t → IsLower s u → IsSound s ids r → IsLocalWithout s u x y r → is_kept r (s.parent u) x ≡ true →
     OneInMore t u y r r' → AgreesBelow s t r' u → IsSound s ids r' → Counted s t u x y r'
 insert_counted s t ids u x y r r' shape lower sound b stands one below sound' = record {
@@ -407,6 +412,7 @@ insert_counted s t ids u x y r r' shape lower sound b stands one below sound' = 
           | inr ne ↦ let a : bit (x == v) ≡ 0 = ap bit (ne_eqb x v (λ f. ne (sym f))) in let c : bit (v == x) ≡ 0 = ap bit (ne_eqb v x ne) in omega (arith, a, c)
         ]
 
+-- x is late by it where y is open
 pub debt_open : {s : Layers} {t : QueryTree} {u x y : ℕ} {r : Rows} → Counted s t u x y r → is_open r u y ≡ true → OutsDebtAt s t r u (x ∷ []) []
 debt_open {s} {t} {u} {x} {y} {r} counted opens = subst (λ b. OutsDebtAt s t r u (cond b (x ∷ []) []) []) opens counted.late
 
@@ -451,6 +457,7 @@ over_of_large s t u x y r shape lower b stands =
     }
 
 module _ {s : Layers} {t : QueryTree} {u x y : ℕ} {r : Rows} (over : OverAt s t u x y r) where
+  -- the layers above agree
   pub over_above : OutsAbove s t r u
   over_above c low high = over.outs c low (λ e. let f = ap (depth t) e in absurd (omega (arith, f, high)))
 
@@ -527,6 +534,7 @@ module _ (s : Layers) (t : QueryTree) (u x y : ℕ) (r : Rows) (over : InsOverAt
   over_miss : (z w : ℕ) → z ≢ u → bit ((z == u) && (y == w)) ≡ 0
   over_miss z w ne = ap (λ k. bit (k && (y == w))) (ne_eqb z u ne)
 
+  -- the layers below agree
   pub over_below : AgreesBelow s t r u
   over_below = record {
     ins = λ z w low deep. let a = over.ins z w low in let miss = over_miss z w (λ e. let f = ap (depth t) e in absurd (omega (arith, f, deep))) in omega (arith, a, miss);

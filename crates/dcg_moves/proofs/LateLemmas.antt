@@ -13,18 +13,22 @@ use Rattle.dcg_moves.specs.Scan.{Late, none, at_child, pending, Scan}
 use Rattle.dcg_moves.proofs.JointCounts.{bit}
 use Rattle.dcg_moves.proofs.WeightLemmas.{in_below}
 
+-- none of no joints counts
 pub none_counted : (b : Bool) (o : ℕ → Bool) → cond b (count_by o []) 0 ≡ 0
 none_counted true o = refl
 none_counted false o = refl
 
 -- ---- at the layer itself, and elsewhere
 
+-- at the layer itself
 pub at_here : (c : ℕ) (xs : List ℕ) (late : Late) → at_child c xs late c ≡ xs
 at_here c xs late = ap (λ b. cond b xs (late c)) (eq-eqb c c refl)
 
+-- elsewhere
 pub at_other : (c : ℕ) (xs : List ℕ) (late : Late) (z : ℕ) → z ≢ c → at_child c xs late z ≡ late z
 at_other c xs late z ne = ap (λ b. cond b xs (late z)) (ne_eqb z c ne)
 
+-- elsewhere whatever stands here
 pub at_both : (c : ℕ) (xs ys : List ℕ) (late : Late) (z : ℕ) → z ≢ c → at_child c ys late z ≡ at_child c xs late z
 at_both c xs ys late z ne = at_other c ys late z ne ∙ sym (at_other c xs late z ne)
 
@@ -32,6 +36,7 @@ at_both c xs ys late z ne = at_other c ys late z ne ∙ sym (at_other c xs late 
 pub only_pending : (s : Layers) (u v : ℕ) (rest : List ℕ) (z : ℕ) → s.parent z ≢ u → pending s u v rest z ≡ []
 only_pending s u v rest z ne = ap (λ b. cond (b && list_any (λ y. y == z) rest) (below_of s z v) []) (ne_eqb (s.parent z) u ne)
 
+-- nor with those of one child
 pub only_child : (s : Layers) (u c : ℕ) (xs : List ℕ) (late : Late) → s.parent c ≡ u → ((z : ℕ) → s.parent z ≢ u → late z ≡ []) → (z : ℕ) → s.parent z ≢ u → at_child c xs late z ≡ []
 only_child s u c xs late parent only z ne = at_other c xs late z (λ e. ne (ap s.parent e ∙ parent)) ∙ only z ne
 
@@ -58,9 +63,11 @@ in_children s z u low parent =
     any_filter (λ c. not (c == s.root) && (s.parent c == u)) z (range_with_len 0 s.count)
     (and_from _ _ (ap not (ne_eqb z s.root low.apart)) (eq-eqb (s.parent z) u parent)) (in_below z s.count 0 (omega arith) (let l = low.inside in omega arith))
 
+-- all children's joints
 pub pending_all : (s : Layers) (c w z : ℕ) → IsLower s z → s.parent z ≡ c → pending s c w (children s c) z ≡ below_of s z w
 pending_all s c w z lz parent = ap (λ b. cond b (below_of s z w) []) (and_from _ _ (eq-eqb (s.parent z) c parent) (in_children s z c lz parent))
 
+-- are joints
 pub pending_among : (s : Layers) (c w : ℕ) (rest : List ℕ) (z y : ℕ) → times y (pending s c w rest z) ≤ times y (below_of s z w)
 pending_among s c w rest z y = some ((s.parent z == c) && list_any (λ k. k == z) rest)
   where
@@ -70,9 +77,11 @@ pending_among s c w rest z y = some ((s.parent z == c) && list_any (λ k. k == z
 
 -- ---- the same joints, in another order or in other words
 
+-- they count alike under any test
 abbrev pub Alike : Late → Late → Type 0
 Alike a b = (z : ℕ) (o : ℕ → Bool) → count_by o (b z) ≡ count_by o (a z)
 
+-- a scan goes by counts alone
 pub scan_alike : (s : Layers) (t : QueryTree) (u v : ℕ) (r : Rows) (owed over later owed' over' later' : Late) → Alike owed owed' → Alike over over' → Alike later later' →
     ((z : ℕ) → s.parent z ≢ u → (owed' z ≡ []) × (over' z ≡ []) × (later' z ≡ [])) → Scan s t u v owed over later r → Scan s t u v owed' over' later' r
 scan_alike s t u v r owed over later owed' over' later' a b d only scan = record {
@@ -96,6 +105,7 @@ alike_enter s u v c rest xs parent same z o =
           ∙ sym (ap (λ b. count_by o (cond ((s.parent z == u) && (b || list_any (λ y. y == z) rest)) (below_of s z v) [])) (ne_eqb c z (λ e. ne (sym e))))
     ]
 
+-- those of a child that has none left
 pub alike_leave : (s : Layers) (u v c : ℕ) (rest : List ℕ) → list_any (λ y. y == c) rest ≡ false → Alike (at_child c [] (pending s u v rest)) (pending s u v rest)
 alike_leave s u v c rest fresh z o =
     elim (cases_eq z c) [
@@ -109,6 +119,7 @@ alike_leave s u v c rest fresh z o =
     absent true b e = ap (λ k. cond k (below_of s c v) []) e
     absent false b e = refl
 
+-- those of no child
 pub alike_end : (s : Layers) (u v : ℕ) → Alike (pending s u v []) none
 alike_end s u v z o = absent (s.parent z == u)
   where

@@ -29,9 +29,11 @@ pub record OutMove (s : Layers) (t : QueryTree) (u x : ℕ) (row next : Row) (ol
   pub size : length next.outs ≡ length row.outs
   pub other : (k : ℕ) → k ≢ number_in t u → slice_index next.outs k ≡ slice_index row.outs k
 
+-- what is in a row that is there
 pub some_is : {a b : Row} → Some a ≡ Some b → a ≡ b
 some_is e = cc
 
+-- a place with something is within
 pub length_of_get : (xs : List ℕ) (i v : ℕ) → slice_get xs i ≡ Some v → i < length xs
 length_of_get [] i v h = absurd (let bad : None ≡ Some v = h in cc)
 length_of_get (y ∷ ys) zero v h = omega arith
@@ -62,14 +64,17 @@ module _ {s : Layers} {t : QueryTree} {u x : ℕ} {row next : Row} {old new : Ro
   pub in_other_layer : (w y : ℕ) → w ≢ s.parent u → new w y ≡ old w y
   in_other_layer w y ne = m.elsewhere w y (λ p. ne p.0)
 
+  -- a row of this depth or below stays
   pub in_deep_layer : (w y : ℕ) → depth t u ≤ depth t w → new w y ≡ old w y
   in_deep_layer w y deep = in_other_layer w y (λ e. let f = ap (depth t) e in absurd (omega (arith, f, deep, deeper)))
 
+  -- the counter is one of the row's
   pub wide_of : number_in t u < length row.outs
   wide_of =
       let among = length_of_get (children s (s.parent u)) (number_in t u) u (m.shape.number u m.lower.inside m.lower.apart) in
       let width = m.wide (s.parent u) x row m.was in omega (arith, among, width)
 
+  -- no in counter moves
   pub moved_ins : (w y : ℕ) → ins_in (new w y) ≡ ins_in (old w y)
   moved_ins w y =
       elim (same_pair w y (s.parent u) x) [
@@ -77,6 +82,7 @@ module _ {s : Layers} {t : QueryTree} {u x : ℕ} {row next : Row} {old new : Ro
         | inr ne ↦ ap ins_in (m.elsewhere w y ne)
       ]
 
+  -- no row begins or goes
   pub moved_kept : (w y : ℕ) → is_kept new w y ≡ is_kept old w y
   moved_kept w y =
       elim (same_pair w y (s.parent u) x) [
@@ -84,6 +90,7 @@ module _ {s : Layers} {t : QueryTree} {u x : ℕ} {row next : Row} {old new : Ro
         | inr ne ↦ ap is_some (m.elsewhere w y ne)
       ]
 
+  -- each row keeps its number of counters
   pub moved_wide : IsWide s new
   moved_wide w y found is =
       elim (same_pair w y (s.parent u) x) [
@@ -94,6 +101,7 @@ module _ {s : Layers} {t : QueryTree} {u x : ℕ} {row next : Row} {old new : Ro
         | inr ne ↦ m.wide w y found (sym (m.elsewhere w y ne) ∙ is)
       ]
 
+  -- what every move keeps
   pub moved_sound : {ids : List ℕ} → IsSound s ids old → IsSound s ids new
   moved_sound sound = record {
     kept = λ w y. moved_kept w y ∙ sound.kept w y ∙ ap (nat_lt 0) (sym (moved_ins w y));
@@ -175,6 +183,7 @@ module _ {s : Layers} {t : QueryTree} {u x : ℕ} {row next : Row} {old new : Ro
         | inr ne ↦ let same = other k ne in omega (arith, same)
       ]) h
 
+  -- a counter that grows shuts no pair
   pub raise_grows : slice_index row.outs (number_in t u) ≤ slice_index next.outs (number_in t u) → Grows old new
   raise_grows more = record {
     keeps = λ w y k. moved_kept w y ∙ k;
@@ -187,6 +196,7 @@ module _ {s : Layers} {t : QueryTree} {u x : ℕ} {row next : Row} {old new : Ro
         ];
   }
 
+  -- and one that falls opens none
   pub lower_grows : slice_index next.outs (number_in t u) ≤ slice_index row.outs (number_in t u) → Grows new old
   lower_grows less = record {
     keeps = λ w y k. sym (moved_kept w y) ∙ k;
@@ -223,6 +233,7 @@ module _ {s : Layers} {t : QueryTree} {u x : ℕ} {row next : Row} {old new : Ro
       let more = opened s old new (s.parent u) x y shut opens (λ z ne. ap has_all (m.elsewhere (s.parent u) z (λ q. ne q.1))) in
       omega (arith, before, more)
 
+  -- and by those that have to be counted off
   pub late_shut : OutsAbove s t old u → is_open old (s.parent u) x ≡ true → is_open new (s.parent u) x ≡ false → s.parent u ≢ s.root →
       OutsDebtAt s t new (s.parent u) [] (above_of s (s.parent u) x)
   late_shut above opens shut root y found is =
@@ -256,6 +267,7 @@ pub record OutMoved (s : Layers) (t : QueryTree) (u x : ℕ) (less more old new 
 
 module _ (s : Layers) (t : QueryTree) (u x p j : ℕ) (old new : Rows) (shape : IsShapeOf s t) (lower : IsLower s u) (wide : IsWide s old) (parent : p ≡ s.parent u) (number : j ≡ number_in t u)
     (row : Row) (was : old (s.parent u) x ≡ Some row) where
+  -- one joint more
   pub raised : Changes old new p x (option_map (more_outs j) (old p x)) → OutMoved s t u x old new old new
   raised changes = record {
     row = row;
@@ -284,6 +296,7 @@ module _ (s : Layers) (t : QueryTree) (u x p j : ℕ) (old new : Rows) (shape : 
       count : slice_index next.outs (number_in t u) ≡ slice_index row.outs (number_in t u) + 1
       count = get_or-set_same row.outs (number_in t u) (slice_index row.outs (number_in t u) + 1) 0 (wide_of move)
 
+  -- one joint less
   pub lowered : 0 < slice_index row.outs (number_in t u) → Changes old new p x (option_map (fewer_outs j) (old p x)) → OutMoved s t u x new old old new
   lowered some changes = record {
     row = row;

@@ -53,6 +53,7 @@ module _ (q : PatternGraph) (t : QueryTree) (g : Graph) (belongs : BelongsTo q t
           let ends = ends_up q t belongs u l link up in
           and_from _ _ ((λ i. fits q (sym ends.0 i) g (sym kept.1 i).below) ∙ (and_parts _ _ two.0).1) ((λ i. fits q (sym ends.1 i) g (sym kept.1 i).above) ∙ two.1)
 
+  -- joints join what fits
   pub joins_fitting : (seen : ℕ → List Triple) → JoinsFitting (joined_by q t g seen)
   joins_fitting seen = record {
     inside = λ u v le. past u v le (nat_lt u (vertex_count q)) refl;
@@ -90,6 +91,7 @@ module _ (j : Joined) (is : IsTree j.tree) (fitting : JoinsFitting j) where
       let k = place_of (children j.tree l.parent) u (in_filter (is_child j.tree l.parent) (range_with_len 0 (length j.tree.links)) u (in_range 0 (length j.tree.links) u (omega arith) (omega (arith, low))) (is_child_of j.tree u l e)) in
       rw e (place_stands u (children j.tree l.parent) k.0 k.1)
 
+  -- so the tree is the shape of the layers
   pub shape_of : ((u : ℕ) → length (j.joints u) < 2 ^ 32 - 1) → IsShapeOf (layers_of j) j.tree
   shape_of few = record {
     root = refl;

@@ -21,10 +21,12 @@ pub row_stands : (o : Option Row) (state : State) → state ≡ state_of_row o �
 row_stands None state is some = absurd (some is)
 row_stands (Some row) state is some = refl
 
+-- a row that is there
 pub stands_row : (o : Option Row) → is_some o ≡ true → (row : Row) × (o ≡ Some row)
 stands_row None h = absurd (let bad : false ≡ true = h in cc)
 stands_row (Some row) h = (row, refl)
 
+-- one that is not
 pub none_row : (o : Option Row) → is_some o ≡ false → o ≡ None
 none_row None h = refl
 none_row (Some row) h = absurd (let bad : true ≡ false = h in cc)
@@ -38,6 +40,7 @@ full_explicit (Some row) state is e = full (is_full row) (sym is ∙ e)
     full true h = refl
     full false h = absurd (let bad : Implicit ≡ Explicit = h in cc)
 
+-- it is not full where the state is implicit
 pub part_implicit : (o : Option Row) (state : State) → state ≡ state_of_row o → state ≡ Implicit → has_all o ≡ false
 part_implicit None state is e = refl
 part_implicit (Some row) state is e = part (is_full row) (sym is ∙ e)
@@ -46,6 +49,7 @@ part_implicit (Some row) state is e = part (is_full row) (sym is ∙ e)
     part true h = absurd (let bad : Explicit ≡ Implicit = h in cc)
     part false h = refl
 
+-- nor where the state is another than explicit
 pub part_other : (o : Option Row) (state : State) → state ≡ state_of_row o → state ≢ Explicit → has_all o ≡ false
 part_other None state is other = refl
 part_other (Some row) state is other = part (is_full row) (λ h. other (is ∙ ap (λ b. cond b Explicit Implicit) h))
@@ -54,6 +58,7 @@ part_other (Some row) state is other = part (is_full row) (λ h. other (is ∙ a
     part true h = absurd (h refl)
     part false h = refl
 
+-- it is full where the state is neither null nor implicit
 pub full_other : (o : Option Row) (state : State) → state ≡ state_of_row o → state ≢ Null → state ≢ Implicit → has_all o ≡ true
 full_other None state is some other = absurd (some is)
 full_other (Some row) state is some other = full (is_full row) (λ h. other (is ∙ ap (λ b. cond b Explicit Implicit) h))

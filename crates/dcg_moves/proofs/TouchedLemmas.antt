@@ -37,6 +37,7 @@ module _ (j : Joined) (is : IsTree j.tree) (d : StateRows) (exact : IsExactOver 
   abbrev full : Row
   full = record { ins = in_count j u v; outs = map (out_count j v) (children j.tree u) }
 
+  -- kept where it is reached
   pub kept_of_exact : is_kept (row_at d) u v ≡ reaches j u v
   kept_of_exact = ap is_some (exact.rows u v) ∙ by (reaches j u v)
     where
@@ -44,6 +45,7 @@ module _ (j : Joined) (is : IsTree j.tree) (d : StateRows) (exact : IsExactOver 
       by true = refl
       by false = refl
 
+  -- open where it is explicit
   pub open_of_exact : is_open (row_at d) u v ≡ is_explicit j u v
   open_of_exact = ap has_all (exact.rows u v) ∙ by (reaches j u v) refl
     where

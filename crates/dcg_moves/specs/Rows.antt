@@ -3,6 +3,7 @@ use Rattle.std.specs.Prelude.{◌≡◌, ℕ, Bool, false, slice_index, Option, 
 use Rattle.flux_model.specs.Exact.{Row}
 use Rattle.dcg_store.specs.Counters.{is_full}
 
+-- the row of each pair that has one, by pattern vertex and graph vertex
 abbrev pub Rows : Type 0
 Rows = ℕ → ℕ → Option Row
 
@@ -10,6 +11,7 @@ Rows = ℕ → ℕ → Option Row
 abbrev pub is_kept : Rows → ℕ → ℕ → Bool
 is_kept r u v = is_some (r u v)
 
+-- there is a row, and each of its out counters is at least 1
 abbrev pub has_all : Option Row → Bool
 has_all None = false
 has_all (Some row) = is_full row
