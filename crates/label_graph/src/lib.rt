@@ -24,6 +24,3 @@ mod store;
 
 pub use graph_traits::{HoldGraph, KeepGraph, ReadGraph, Spot, Turn};
 pub use store::LabelGraph;
-
-#[cfg(test)]
-mod tests;

@@ -31,8 +31,8 @@ abbrev pub IsEarly : Status → Type 0
 IsEarly status.Done = ⊥
 IsEarly status.Usage = ⊥
 IsEarly status.NoFile = ⊤
-IsEarly (status.BadGraph line code) = ⊤
-IsEarly (status.BadPatterns line code) = ⊤
+IsEarly (status.BadGraph _ _) = ⊤
+IsEarly (status.BadPatterns _ _) = ⊤
 IsEarly status.ReadFault = ⊤
 IsEarly status.WriteFault = ⊤
 IsEarly status.Memory = ⊤

@@ -1,19 +1,14 @@
 //! Answers worked out by hand, as scripts of calls.
-use crate::LabelGraph;
-use flux_model::{Code, Limits};
-use script::{Line, play};
-use std::alloc::{AllocError, Global};
-use std::process::Abort;
-use std::test::Fail;
-
-mod calls;
-mod script;
-mod star;
-
+use crate::script::{Line, play};
 use Line::{
     AddVertex, Counted, Degrees, Fits, HasEdge, HasEdgeByLabel, HasEdgeByNumber, HasVertex, Ids,
     InRow, Insert, LabelsOf, MakeStar, OutRow, Remove, RemoveVertex, Seed, Sizes, TakeStar,
 };
+use flux_model::{Code, Limits};
+use label_graph::LabelGraph;
+use std::alloc::{AllocError, Global};
+use std::process::Abort;
+use std::test::Fail;
 
 /// A limit that is not the standard one.
 #[derive(Clone, Copy)]

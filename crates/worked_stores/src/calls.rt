@@ -1,6 +1,6 @@
 //! Calls of a store through the bounds of its traits, and whether they answer what is due.
-use crate::{HoldGraph, KeepGraph, ReadGraph, Spot};
 use flux_model::{Code, Labels, Ledger, Steps, Text, Triple};
+use graph_traits::{HoldGraph, KeepGraph, ReadGraph, Spot};
 use std::alloc::{AllocError, Global};
 use std::process::Abort;
 
@@ -40,7 +40,7 @@ fn triple(rt: &impl Abort, alloc: Global, (src, letter, dst): Edge) -> Result<Tr
 
 // ---- changes
 
-pub fn adds_vertex<G: KeepGraph>(
+pub(crate) fn adds_vertex<G: KeepGraph>(
     rt: &impl Abort,
     alloc: Global,
     graph: &mut G,
@@ -51,11 +51,11 @@ pub fn adds_vertex<G: KeepGraph>(
     Ok(graph.add_vertex(id, &labels)? == due)
 }
 
-pub fn removes_vertex<G: KeepGraph>(graph: &mut G, id: u32, due: Answer) -> bool {
+pub(crate) fn removes_vertex<G: KeepGraph>(graph: &mut G, id: u32, due: Answer) -> bool {
     graph.remove_vertex(id) == due
 }
 
-pub fn inserts<G: KeepGraph>(
+pub(crate) fn inserts<G: KeepGraph>(
     rt: &impl Abort,
     alloc: Global,
     graph: &mut G,
@@ -66,7 +66,7 @@ pub fn inserts<G: KeepGraph>(
     Ok(graph.insert(&triple)? == due)
 }
 
-pub fn removes<G: KeepGraph>(
+pub(crate) fn removes<G: KeepGraph>(
     rt: &impl Abort,
     alloc: Global,
     graph: &mut G,
@@ -89,7 +89,7 @@ fn seen<G: HoldGraph>(graph: &G, label: &Text, number: u32, other: u32) -> Seen 
 }
 
 /// The out row of a vertex; nothing where it is no vertex.
-pub fn out_row<G: ReadGraph<L>, L: Ledger>(
+pub(crate) fn out_row<G: ReadGraph<L>, L: Ledger>(
     alloc: Global,
     graph: &G,
     v: u32,
@@ -108,7 +108,7 @@ pub fn out_row<G: ReadGraph<L>, L: Ledger>(
 }
 
 /// The in row of a vertex; nothing where it is no vertex.
-pub fn in_row<G: ReadGraph<L>, L: Ledger>(
+pub(crate) fn in_row<G: ReadGraph<L>, L: Ledger>(
     alloc: Global,
     graph: &G,
     v: u32,
@@ -127,13 +127,17 @@ pub fn in_row<G: ReadGraph<L>, L: Ledger>(
 }
 
 /// Whether the row is this one, which is in ascending order. The order of a row is the store's own.
-pub fn is_row(mut row: Vec<Seen>, due: &[Seen]) -> Result<bool, AllocError> {
+pub(crate) fn is_row(mut row: Vec<Seen>, due: &[Seen]) -> Result<bool, AllocError> {
     row.sort()?;
     Ok(*row.as_slice() == *due)
 }
 
 /// Whether the ids are these, in this order.
-pub fn has_ids<G: ReadGraph<L>, L: Ledger>(graph: &G, due: &[u32], steps: &mut Steps<L>) -> bool {
+pub(crate) fn has_ids<G: ReadGraph<L>, L: Ledger>(
+    graph: &G,
+    due: &[u32],
+    steps: &mut Steps<L>,
+) -> bool {
     if graph.vertex_count() != due.len() as u64 {
         return false;
     }
@@ -148,12 +152,12 @@ pub fn has_ids<G: ReadGraph<L>, L: Ledger>(graph: &G, due: &[u32], steps: &mut S
 // ---- vertices and edges
 
 /// Whether these are the numbers of vertices and of triples.
-pub fn has_sizes<G: HoldGraph>(graph: &G, vertices: u64, edges: u64) -> bool {
+pub(crate) fn has_sizes<G: HoldGraph>(graph: &G, vertices: u64, edges: u64) -> bool {
     graph.vertex_count() == vertices && graph.edge_count() == edges
 }
 
 /// Whether the labels of the vertex are these, in this order.
-pub fn has_labels<G: ReadGraph<L>, L: Ledger>(
+pub(crate) fn has_labels<G: ReadGraph<L>, L: Ledger>(
     graph: &G,
     v: u32,
     letters: &[u8],
@@ -175,7 +179,7 @@ pub fn has_labels<G: ReadGraph<L>, L: Ledger>(
 }
 
 /// Whether the vertex has each of these labels; nothing where it is no vertex.
-pub fn fits<G: ReadGraph<L>, L: Ledger>(
+pub(crate) fn fits<G: ReadGraph<L>, L: Ledger>(
     rt: &impl Abort,
     alloc: Global,
     graph: &G,
@@ -191,7 +195,7 @@ pub fn fits<G: ReadGraph<L>, L: Ledger>(
 }
 
 /// Whether these are the degrees of a vertex, out and in.
-pub fn has_degrees<G: ReadGraph<L>, L: Ledger>(
+pub(crate) fn has_degrees<G: ReadGraph<L>, L: Ledger>(
     graph: &G,
     v: u32,
     (outs, ins): (u64, u64),
@@ -201,7 +205,7 @@ pub fn has_degrees<G: ReadGraph<L>, L: Ledger>(
 }
 
 /// Whether the triple stands.
-pub fn has_edge<G: ReadGraph<L>, L: Ledger>(
+pub(crate) fn has_edge<G: ReadGraph<L>, L: Ledger>(
     rt: &impl Abort,
     alloc: Global,
     graph: &G,
@@ -213,7 +217,7 @@ pub fn has_edge<G: ReadGraph<L>, L: Ledger>(
 }
 
 /// Whether the triple stands, by the number of its label; nothing where the label has none.
-pub fn has_edge_by<G: ReadGraph<L>, L: Ledger>(
+pub(crate) fn has_edge_by<G: ReadGraph<L>, L: Ledger>(
     rt: &impl Abort,
     alloc: Global,
     graph: &G,

@@ -1,6 +1,6 @@
 use Rattle.std.proofs.Common.{length, IsTrue}
 use Rattle.flux_model.specs.Graph.{has_vertex}
-use Rattle.label_graph.proofs.tests.calls.out_row.Given as goal
+use Rattle.worked_stores.proofs.calls.out_row.Given as goal
 
 -- the vertex stands, and the place is one of its row
 abbrev pub invariant-loop-turn : goal.invariant-loop-turn

@@ -1,7 +1,7 @@
 //! A vertex of a high degree.
-use super::calls::{Seen, adds_vertex, inserts, out_row, removes};
-use crate::{KeepGraph, ReadGraph};
+use crate::calls::{Seen, adds_vertex, inserts, out_row, removes};
 use flux_model::{Ledger, Steps};
+use graph_traits::{KeepGraph, ReadGraph};
 use std::alloc::{AllocError, Global};
 use std::process::Abort;
 
@@ -37,7 +37,7 @@ fn lists_what_stands(row: Vec<Seen>, standing: Vec<bool>) -> bool {
 }
 
 /// Adds the vertices 0 to `MANY`, and an edge from 0 to each other one; whether all were accepted.
-pub fn makes_star<G: KeepGraph>(
+pub(crate) fn makes_star<G: KeepGraph>(
     rt: &impl Abort,
     alloc: Global,
     graph: &mut G,
@@ -56,7 +56,7 @@ pub fn makes_star<G: KeepGraph>(
 }
 
 /// Removes the edges of a star in another order; whether all were accepted, and the row of 0 was what stood after each hundred.
-pub fn takes_star<G: KeepGraph + ReadGraph<L>, L: Ledger>(
+pub(crate) fn takes_star<G: KeepGraph + ReadGraph<L>, L: Ledger>(
     rt: &impl Abort,
     alloc: Global,
     graph: &mut G,

@@ -1,9 +1,9 @@
 //! Scripts of calls, and what plays them.
-use super::calls;
-use super::calls::{Answer, Edge, Seen};
-use super::star::{makes_star, takes_star};
-use crate::{KeepGraph, ReadGraph};
+use crate::calls;
+use crate::calls::{Answer, Edge, Seen};
+use crate::star::{makes_star, takes_star};
 use flux_model::{Steps, Tally};
+use graph_traits::{KeepGraph, ReadGraph};
 use std::alloc::{AllocError, Global};
 use std::process::Abort;
 
@@ -97,7 +97,7 @@ fn answers<G: KeepGraph + ReadGraph<Tally>>(
 }
 
 /// Asserts that each line of a script answers as it says.
-pub fn play<G: KeepGraph + ReadGraph<Tally>>(
+pub(crate) fn play<G: KeepGraph + ReadGraph<Tally>>(
     rt: &impl Abort,
     alloc: Global,
     graph: &mut G,
