@@ -1,16 +1,16 @@
 -- What a `LabelGraph` means: its graph, its rows from a place on, and of which vertex a place is.
-use Rattle.std.specs.Prelude.{◌≡◌, ℕ, List, Some, map, slice_get}
+use Rattle.std.specs.Prelude.{◌≡◌, ℕ, List, Some, slice_get}
 use Rattle.std.specs.Map.{keys_of}
 use Rattle.flux_model.specs.Graph.{Graph}
 use Rattle.flux_model.specs.declared.graph.Triple.{Triple}
-use Rattle.label_graph.specs.Places.{vertex_of, outs, ins, out_link, in_link}
-use Rattle.label_graph.specs.Store.{kept_graph, row_from}
+use Rattle.label_graph.specs.Places.{outs, ins, out_link, in_link}
+use Rattle.label_graph.specs.Store.{node_graph, row_from}
 use Rattle.graph_traits.specs.declared.spot.Spot.{Spot}
 use Rattle.label_graph.specs.declared.store.LabelGraph.{LabelGraph}
 
 -- the graph: the vertices of the nodes, and the triples of the links that have places
 abbrev pub graph_in : LabelGraph → Graph
-graph_in s = kept_graph s.names (map vertex_of s.nodes.entries) (keys_of s.places.entries)
+graph_in s = node_graph s.names s.nodes.entries s.places.entries
 
 -- the triples of the out row of v from a place on
 abbrev pub outs_in : LabelGraph → ℕ → Spot → List Triple

@@ -1,13 +1,17 @@
 -- What a store means, and what it keeps.
 use Rattle.std.specs.Prelude.{◌≡◌, ℕ, ◌+◌, ◌==◌, List, [], Option, Some, None, unwrap_or, map, drop, count_by}
+use Rattle.std.specs.Map.{keys_of}
 use Rattle.flux_model.specs.Text.{text_cmp}
 use Rattle.flux_model.specs.Ordered.{is_in}
 use Rattle.flux_model.specs.Graph.{Graph, vertex_cmp, triple_cmp}
 use Rattle.flux_model.specs.declared.graph.Vertex.{Vertex}
 use Rattle.flux_model.specs.declared.graph.Triple.{Triple}
 use Rattle.label_graph.specs.declared.link.Link.{Link}
+use Rattle.label_graph.specs.declared.link.Node.{Node}
+use Rattle.label_graph.specs.declared.link.Places.{Places}
 use Rattle.label_graph.specs.declared.link.RowEntry.{RowEntry}
 use Rattle.label_graph.specs.declared.names.Name.{Name}
+use Rattle.label_graph.specs.Places.{vertex_of}
 use Rattle.label_graph.specs.Names.{slot, text_at, IsUnknown}
 use Rattle.flux_model.specs.Members.{In}
 use Rattle.label_graph.specs.Sorted.{sorted}
@@ -20,6 +24,10 @@ triple_of names k = record { src = k.src; label = unwrap_or (text_at names k.lab
 abbrev pub kept_graph : List (Option Name) → List Vertex → List Link → Graph
 kept_graph names vertices links =
     record { vertices = sorted vertex_cmp vertices; triples = sorted triple_cmp (map (triple_of names) links) }
+
+-- the graph of the nodes and of the triples that have places
+abbrev pub node_graph : List (Option Name) → List (ℕ × Node) → List (Link × Places) → Graph
+node_graph names nodes places = kept_graph names (map vertex_of nodes) (keys_of places)
 
 -- how often a number is used: by triples, and by vertices that bear its name
 abbrev pub use_count : List Vertex → List Link → ℕ → List ℕ → ℕ

@@ -6,7 +6,7 @@ ghost use Rattle.flux_model.specs.Graph.{empty_graph};
 ghost use Rattle.flux_model.specs.Limits.{IsFair};
 ghost use Rattle.graph_traits.specs.WithinLimits.{IsWithinLimits};
 ghost use Rattle.label_graph.specs.Places.{ArePlaced, vertex_of};
-ghost use Rattle.label_graph.specs.Store.{IsNamed, kept_graph};
+ghost use Rattle.label_graph.specs.Store.{IsNamed, node_graph};
 
 use crate::hashed::{Nodes, Standing};
 use crate::link::{Link, Node, Places};
@@ -31,8 +31,7 @@ pub struct LabelGraph {
     places: Standing,
     ghost placed: { ArePlaced nodes.entries places.entries },
     ghost named: { IsNamed names (map vertex_of nodes.entries) (keys_of places.entries) },
-    ghost held: { IsWithinLimits limits
-        (kept_graph names (map vertex_of nodes.entries) (keys_of places.entries)) } by { Prim.hlevel props },
+    ghost held: { IsWithinLimits limits (node_graph names nodes.entries places.entries) } by { Prim.hlevel props },
 }
 
 impl LabelGraph {
