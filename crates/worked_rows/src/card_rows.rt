@@ -62,22 +62,32 @@ const ROWS: [Row; 5] = [
     },
 ];
 
-/// Compares the cards of a row.
-fn check(rt: &impl Abort, alloc: Global, row: &Row) -> Result<(), AllocError> {
+/// Whether the cards of a row are as they should be.
+fn is_right(rt: &impl Abort, alloc: Global, row: &Row) -> Result<bool, AllocError> {
     let graph = graph_of(rt, alloc, row.graph)?;
     let patterns = patterns_of(rt, alloc, row.pattern)?;
     let mut steps = Steps::new(Tally::new());
     let counted = cards(alloc, &graph, first(rt, &patterns), &mut steps)?;
-    assert_eq!(rt; counted.edges(), row.edges);
-    assert_eq!(rt; counted.vertices(), row.vertices);
-    assert!(rt; steps.ledger().read() <= row.most_reads);
-    Ok(())
+    let reads = steps.ledger().read();
+    Ok(
+        counted.edges() == row.edges
+            && counted.vertices() == row.vertices
+            && reads <= row.most_reads,
+    )
+}
+
+/// How many rows, from the first on, are as they should be.
+fn count_right(rt: &impl Abort, alloc: Global, rows: &[Row]) -> Result<usize, AllocError> {
+    for i in 0..rows.len() {
+        if !is_right(rt, alloc, &rows[i])? {
+            return Ok(i);
+        }
+    }
+    Ok(rows.len())
 }
 
 #[test]
 fn cards_of_patterns(rt: HostRuntime) -> Result<(), Fail> {
-    for row in &ROWS {
-        check(&rt, rt.alloc(), row)?;
-    }
+    assert_eq!(rt; count_right(&rt, rt.alloc(), &ROWS)?, ROWS.len());
     Ok(())
 }

@@ -61,27 +61,29 @@ const ROWS: [Row; 2] = [
     },
 ];
 
-/// Compares what is told of the candidates of a row.
-fn check(rt: &impl Abort, alloc: Global, row: &Row) -> Result<(), AllocError> {
+/// Whether what is told of the candidates of a row is as it should be.
+fn is_right(rt: &impl Abort, alloc: Global, row: &Row) -> Result<bool, AllocError> {
     let graph = graph_of(rt, alloc, row.graph)?;
     let patterns = patterns_of(rt, alloc, row.pattern)?;
     let pattern = first(rt, &patterns);
     let tree = tree_of(rt, alloc, pattern, row.edges, row.vertices)?;
-    for case in row.cases {
-        check_case(rt, alloc, pattern, &tree, &graph, case)?;
+    for i in 0..row.cases.len() {
+        if !joins_as(rt, alloc, pattern, &tree, &graph, &row.cases[i])? {
+            return Ok(false);
+        }
     }
-    Ok(())
+    Ok(true)
 }
 
-/// Compares what is told of one candidate.
-fn check_case(
+/// Whether what is told of one candidate is as it should be.
+fn joins_as(
     rt: &impl Abort,
     alloc: Global,
     pattern: &Pattern,
     tree: &QueryTree,
     graph: &LabelGraph,
     case: &Case,
-) -> Result<(), AllocError>
+) -> Result<bool, AllocError>
     requires { BelongsTo pattern.now tree.now }
 {
     let ((u, id), (w, x), answer, reads) = *case;
@@ -89,20 +91,26 @@ fn check_case(
     assert!(rt; u < count && w < count);
     let mut partial = Partial::new(count);
     partial.put(u, id);
-    assert_eq!(rt; partial.get(w), None);
+    assert!(rt; partial.get(w).is_none());
     let numbers = label_numbers(pattern, graph);
     let mut steps = Steps::new(Tally::new());
     let joined = joins(pattern, tree, &numbers, &partial, w, x, graph, &mut steps);
-    assert_eq!(rt; joined, answer);
-    assert_eq!(rt; steps.ledger().read(), reads);
-    Ok(())
+    Ok(joined == answer && steps.ledger().read() == reads)
+}
+
+/// How many rows, from the first on, are as they should be.
+fn count_right(rt: &impl Abort, alloc: Global, rows: &[Row]) -> Result<usize, AllocError> {
+    for i in 0..rows.len() {
+        if !is_right(rt, alloc, &rows[i])? {
+            return Ok(i);
+        }
+    }
+    Ok(rows.len())
 }
 
 #[test]
 fn candidates_beside_a_given_id(rt: HostRuntime) -> Result<(), Fail> {
-    for row in &ROWS {
-        check(&rt, rt.alloc(), row)?;
-    }
+    assert_eq!(rt; count_right(&rt, rt.alloc(), &ROWS)?, ROWS.len());
     Ok(())
 }
 
@@ -121,7 +129,7 @@ fn an_id_is_given_twice_in_mode_hom_alone(rt: HostRuntime) {
     partial.put(0, 1);
     partial.put(2, 5);
     for (mode, x, is_free) in FREE {
-        assert_eq!(rt; free(mode, &partial, x), is_free);
+        assert!(rt; free(mode, &partial, x) == is_free, "{x}");
     }
 }
 

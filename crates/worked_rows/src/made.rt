@@ -3,7 +3,8 @@ ghost use Rattle.std.specs.Prelude.{IfOk};
 ghost use Rattle.flux_model.specs.Tree.{BelongsTo};
 
 use flux_model::{Cards, Code, Limits, Line, Map, Maps, Pattern, Patterns, Said, Update};
-use label_graph::{KeepGraph, LabelGraph};
+use graph_traits::KeepGraph;
+use label_graph::LabelGraph;
 use line_grammar::{read_pattern_line, read_update_line};
 use pattern_check::PatternReader;
 use query_tree::QueryTree;
@@ -116,24 +117,40 @@ pub(crate) fn tree_of(
 ) -> Result<QueryTree, AllocError>
     ensures { IfOk result (λ tree. BelongsTo pattern.now tree) }
 {
-    assert_eq!(rt; edges.len(), pattern.edge_count());
-    assert_eq!(rt; vertices.len(), pattern.vertex_count());
-    let cards = Cards::new(edges.to_vec(alloc)?, vertices.to_vec(alloc)?);
+    let cards = cards_of(alloc, edges, vertices)?;
+    assert!(rt; cards.edges().len() == pattern.edge_count());
+    assert!(rt; cards.vertices().len() == pattern.vertex_count());
     QueryTree::choose(alloc, pattern, &cards)
 }
 
-/// Compares maps with lists of ids.
-pub(crate) fn assert_maps(rt: &impl Abort, maps: &Maps, expected: &[&[u32]]) {
-    assert_eq!(rt; maps.len(), expected.len());
-    for i in 0..expected.len() {
-        assert_map(rt, maps.get(i), expected[i]);
-    }
+/// Cards of these numbers.
+fn cards_of(alloc: Global, edges: &[u64], vertices: &[u64]) -> Result<Cards, AllocError> {
+    let edges = edges.to_vec(alloc)?;
+    Ok(Cards::new(edges, vertices.to_vec(alloc)?))
 }
 
-/// Compares a map with a list of ids.
-fn assert_map(rt: &impl Abort, map: &Map, ids: &[u32]) {
-    assert_eq!(rt; map.len(), ids.len());
-    for u in 0..ids.len() {
-        assert_eq!(rt; map.get(u), ids[u]);
+/// Whether the maps are these lists of ids.
+pub(crate) fn are_maps(maps: &Maps, expected: &[&[u32]]) -> bool {
+    if maps.len() != expected.len() {
+        return false;
     }
+    for i in 0..expected.len() {
+        if !is_map(maps.get(i), expected[i]) {
+            return false;
+        }
+    }
+    true
+}
+
+/// Whether the map is this list of ids.
+fn is_map(map: &Map, ids: &[u32]) -> bool {
+    if map.len() != ids.len() {
+        return false;
+    }
+    for u in 0..ids.len() {
+        if map.get(u) != ids[u] {
+            return false;
+        }
+    }
+    true
 }

@@ -2,7 +2,7 @@
 ghost use Rattle.std.specs.Prelude.{◌<◌, length};
 ghost use Rattle.flux_model.specs.Tree.{BelongsTo};
 
-use crate::made::{assert_maps, first, graph_of, patterns_of, tree_of};
+use crate::made::{are_maps, first, graph_of, patterns_of, tree_of};
 use crate::shapes::{BOTH, CHAIN, HOOK, RING, TRIANGLE};
 use dcg_transition::build;
 use flux_model::{Labels, Maps, Pattern, Steps, Tally, Text, Triple};
@@ -421,16 +421,17 @@ fn add_all(maps: &mut Maps, more: &Maps) -> Result<(), AllocError> {
     Ok(())
 }
 
-/// Compares two lists of maps.
-fn assert_same(rt: &impl Abort, found: &Maps, expected: &Maps) {
-    assert_eq!(rt; found.len(), expected.len());
+/// Whether two lists have the same maps in the same order.
+fn are_same(found: &Maps, expected: &Maps) -> bool {
+    if found.len() != expected.len() {
+        return false;
+    }
     for i in 0..expected.len() {
-        let (map, other) = (found.get(i), expected.get(i));
-        assert_eq!(rt; map.len(), other.len());
-        for u in 0..other.len() {
-            assert_eq!(rt; map.get(u), other.get(u));
+        if found.get(i) != expected.get(i) {
+            return false;
         }
     }
+    true
 }
 
 /// Inserts, and compares what is found with a list, and with what was found and what is found at the triple.
@@ -449,8 +450,9 @@ fn assert_insertion(
     make(rt, alloc, graph, change)?;
     add_changed(rt, alloc, pattern, tree, graph, change, &mut maps)?;
     maps.sort()?;
-    assert_maps(rt, &maps, expected);
-    assert_maps(rt, &found_in(alloc, pattern, tree, graph)?, expected);
+    assert!(rt; are_maps(&maps, expected));
+    let found = found_in(alloc, pattern, tree, graph)?;
+    assert!(rt; are_maps(&found, expected));
     Ok(())
 }
 
@@ -471,10 +473,10 @@ fn assert_removal(
     add_changed(rt, alloc, pattern, tree, graph, change, &mut maps)?;
     make(rt, alloc, graph, change)?;
     let after = found_in(alloc, pattern, tree, graph)?;
-    assert_maps(rt, &after, expected);
+    assert!(rt; are_maps(&after, expected));
     add_all(&mut maps, &after)?;
     maps.sort()?;
-    assert_same(rt, &maps, &before);
+    assert!(rt; are_same(&maps, &before));
     Ok(())
 }
 
@@ -491,7 +493,8 @@ fn check_lines(rt: &impl Abort, alloc: Global, row: &Row) -> Result<(), AllocErr
     let patterns = patterns_of(rt, alloc, row.pattern)?;
     let pattern = first(rt, &patterns);
     let tree = tree_of(rt, alloc, pattern, row.edges, row.vertices)?;
-    assert_maps(rt, &found_in(alloc, pattern, &tree, &graph)?, &[]);
+    let found = found_in(alloc, pattern, &tree, &graph)?;
+    assert!(rt; are_maps(&found, &[]));
     for i in 0..row.lines.len() {
         let (change, expected) = row.lines[i];
         if is_insertion(change) {
@@ -524,7 +527,7 @@ fn assert_class(
         pattern, tree, &dcg, graph, row.number, &triple, &mut maps, &mut steps,
     )?;
     maps.sort()?;
-    assert_maps(rt, &maps, row.class);
+    assert!(rt; are_maps(&maps, row.class));
     assert!(rt; steps.ledger().read() <= row.most_steps);
     Ok(())
 }

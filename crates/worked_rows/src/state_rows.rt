@@ -1,12 +1,14 @@
 //! States of pairs, worked out by hand from their definition.
 ghost use Rattle.std.specs.Prelude.{◌≡◌, length, false};
+ghost use Rattle.flux_model.specs.Tree.{BelongsTo};
 
 use crate::made::{first, graph_of, patterns_of, tree_of};
 use crate::shapes::{CHAIN, LABELLED_CHAIN};
 use dcg_store::Dcg;
 use dcg_transition::build;
 use flux_model::State::{Explicit, Implicit, Null};
-use flux_model::{State, Steps, Tally};
+use flux_model::{Pattern, Silent, State, Steps, Tally};
+use label_graph::LabelGraph;
 use query_tree::QueryTree;
 use std::alloc::{AllocError, Global};
 use std::process::Abort;
@@ -86,41 +88,82 @@ const ROWS: [Row; 4] = [
     },
 ];
 
-/// Builds the rows of states of a row of the table, and compares them.
-fn check(rt: &impl Abort, alloc: Global, row: &Row) -> Result<(), AllocError> {
+/// Whether the rows of states of a row of the table are as they should be.
+fn is_right(rt: &impl Abort, alloc: Global, row: &Row) -> Result<bool, AllocError> {
     let graph = graph_of(rt, alloc, row.graph)?;
     let patterns = patterns_of(rt, alloc, row.pattern)?;
     let pattern = first(rt, &patterns);
     let tree = tree_of(rt, alloc, pattern, row.edges, &[1, 1, 1])?;
-    let mut steps = Steps::new(Tally::new());
-    let dcg = build(alloc, pattern, &tree, &graph, &mut steps)?;
-    assert!(rt; steps.ledger().read() <= row.most_steps);
-    check_rows(rt, &tree, &dcg, row);
-    Ok(())
+    builds(alloc, pattern, &tree, &graph, row)
 }
 
-/// Compares the rows of states with what is expected.
-fn check_rows(rt: &impl Abort, tree: &QueryTree, dcg: &Dcg, row: &Row)
+/// Whether the rows of states are built in few steps, and are those of the row.
+fn builds(
+    alloc: Global,
+    pattern: &Pattern,
+    tree: &QueryTree,
+    graph: &LabelGraph,
+    row: &Row,
+) -> Result<bool, AllocError>
+    requires { BelongsTo pattern.now tree.now }
+{
+    let mut steps = Steps::new(Tally::new());
+    let dcg = build(alloc, pattern, tree, graph, &mut steps)?;
+    let is_few = steps.ledger().read() <= row.most_steps;
+    Ok(is_few && are_rows(tree, &dcg, row))
+}
+
+/// Whether the rows of states are these.
+fn are_rows(tree: &QueryTree, dcg: &Dcg, row: &Row) -> bool
     requires whole { dcg.now.is_broken ≡ false }
     requires vertices { length dcg.now.children ≡ length tree.now.links }
 {
-    assert_eq!(rt; dcg.stored(), row.stored);
-    assert_eq!(rt; tree.vertex_count(), row.live.len());
-    for u in 0..row.live.len() {
-        assert_eq!(rt; dcg.live_count(u), row.live[u]);
+    dcg.stored() == row.stored
+        && tree.vertex_count() == row.live.len()
+        && has_live_counts(dcg, row.live)
+        && has_states(tree, dcg, row.states)
+}
+
+/// Whether so many pairs of each pattern vertex are explicit.
+fn has_live_counts(dcg: &Dcg, live: &[u64]) -> bool
+    requires whole { dcg.now.is_broken ≡ false }
+    requires vertices { length dcg.now.children ≡ length live.now }
+{
+    for u in 0..live.len() {
+        if dcg.live_count(u) != live[u] {
+            return false;
+        }
     }
-    let mut steps = Steps::new(Tally::new());
-    for i in 0..row.states.len() {
-        let (u, v, state) = row.states[i];
-        assert!(rt; u < tree.vertex_count());
-        assert_eq!(rt; dcg.pair_state(u, v, &mut steps), state);
+    true
+}
+
+/// Whether the pairs have these states.
+fn has_states(tree: &QueryTree, dcg: &Dcg, states: &[(usize, u32, State)]) -> bool
+    requires whole { dcg.now.is_broken ≡ false }
+    requires vertices { length dcg.now.children ≡ length tree.now.links }
+{
+    let mut steps = Steps::new(Silent);
+    for i in 0..states.len() {
+        let (u, v, state) = states[i];
+        if u >= tree.vertex_count() || dcg.pair_state(u, v, &mut steps) != state {
+            return false;
+        }
     }
+    true
+}
+
+/// How many rows, from the first on, are as they should be.
+fn count_right(rt: &impl Abort, alloc: Global, rows: &[Row]) -> Result<usize, AllocError> {
+    for i in 0..rows.len() {
+        if !is_right(rt, alloc, &rows[i])? {
+            return Ok(i);
+        }
+    }
+    Ok(rows.len())
 }
 
 #[test]
 fn states_of_chains(rt: HostRuntime) -> Result<(), Fail> {
-    for row in &ROWS {
-        check(&rt, rt.alloc(), row)?;
-    }
+    assert_eq!(rt; count_right(&rt, rt.alloc(), &ROWS)?, ROWS.len());
     Ok(())
 }

@@ -1,4 +1,6 @@
 //! Trees, worked out by hand from the definition of their growth.
+ghost use Rattle.std.specs.Prelude.{◌<◌, length};
+
 use crate::made::{first, patterns_of, tree_of};
 use crate::shapes::{BOTH, CHAIN, DOT, HOOK, TRIANGLE};
 use query_tree::numbers::least_by;
@@ -7,6 +9,9 @@ use std::alloc::{AllocError, Global};
 use std::process::Abort;
 use std::test::Fail;
 
+/// The parent of a vertex, the edge that it hangs by, and its place among the parent's children.
+type Hanging = (usize, usize, usize);
+
 /// The tree of a pattern for cards of its edges and of its vertices.
 #[derive(Clone, Copy)]
 struct Row {
@@ -14,8 +19,8 @@ struct Row {
     edges: &'static [u64],
     vertices: &'static [u64],
     root: usize,
-    /// For each vertex but the root its parent, the edge that it hangs by, and its place among the parent's children.
-    links: &'static [Option<(usize, usize, usize)>],
+    /// For each vertex but the root how it hangs.
+    links: &'static [Option<Hanging>],
     /// For each vertex those that hang from it.
     children: &'static [&'static [usize]],
     /// The edges that no link names.
@@ -84,41 +89,71 @@ const ROWS: [Row; 6] = [
     },
 ];
 
-/// Compares the tree of a row.
-fn check(rt: &impl Abort, alloc: Global, row: &Row) -> Result<(), AllocError> {
+/// Whether the tree of a row is as it should be.
+fn is_right(rt: &impl Abort, alloc: Global, row: &Row) -> Result<bool, AllocError> {
     let patterns = patterns_of(rt, alloc, row.pattern)?;
     let tree = tree_of(rt, alloc, first(rt, &patterns), row.edges, row.vertices)?;
-    assert_eq!(rt; tree.root(), row.root);
-    assert_eq!(rt; tree.non_tree(), row.non_tree);
-    assert_eq!(rt; tree.vertex_count(), row.links.len());
-    for u in 0..row.links.len() {
-        check_link(rt, &tree, u, row.links[u]);
-    }
-    assert_eq!(rt; tree.vertex_count(), row.children.len());
-    for u in 0..row.children.len() {
-        assert_eq!(rt; tree.children(u), row.children[u]);
-    }
-    Ok(())
+    Ok(
+        tree.root() == row.root
+            && tree.non_tree() == row.non_tree
+            && has_links(&tree, row.links)
+            && has_children(&tree, row.children),
+    )
 }
 
-/// Compares how a vertex hangs.
-fn check_link(rt: &impl Abort, tree: &QueryTree, u: usize, link: Option<(usize, usize, usize)>) {
-    assert!(rt; u < tree.vertex_count());
+/// Whether the vertices hang by these links.
+fn has_links(tree: &QueryTree, links: &[Option<Hanging>]) -> bool {
+    if tree.vertex_count() != links.len() {
+        return false;
+    }
+    for u in 0..links.len() {
+        if !hangs_by(tree, u, links[u]) {
+            return false;
+        }
+    }
+    true
+}
+
+/// Whether a vertex hangs by this link.
+fn hangs_by(tree: &QueryTree, u: usize, link: Option<Hanging>) -> bool
+    requires { u < length tree.now.links }
+{
     match link {
-        None => assert_eq!(rt; tree.parent(u), None),
+        None => tree.parent(u).is_none(),
         Some((parent, edge, number)) => {
-            assert_eq!(rt; tree.parent(u), Some(TreeLink { parent, edge }));
-            assert_ne!(rt; u, tree.root());
-            assert_eq!(rt; tree.child_number(u), number);
+            u != tree.root()
+                && tree.parent(u) == Some(TreeLink { parent, edge })
+                && tree.child_number(u) == number
         }
     }
 }
 
+/// Whether these vertices hang from each.
+fn has_children(tree: &QueryTree, children: &[&[usize]]) -> bool {
+    if tree.vertex_count() != children.len() {
+        return false;
+    }
+    for u in 0..children.len() {
+        if tree.children(u) != children[u] {
+            return false;
+        }
+    }
+    true
+}
+
+/// How many rows, from the first on, are as they should be.
+fn count_right(rt: &impl Abort, alloc: Global, rows: &[Row]) -> Result<usize, AllocError> {
+    for i in 0..rows.len() {
+        if !is_right(rt, alloc, &rows[i])? {
+            return Ok(i);
+        }
+    }
+    Ok(rows.len())
+}
+
 #[test]
 fn trees_of_patterns(rt: HostRuntime) -> Result<(), Fail> {
-    for row in &ROWS {
-        check(&rt, rt.alloc(), row)?;
-    }
+    assert_eq!(rt; count_right(&rt, rt.alloc(), &ROWS)?, ROWS.len());
     Ok(())
 }
 
@@ -138,7 +173,7 @@ fn a_vertex_hangs_from_its_parent_alone(rt: HostRuntime) -> Result<(), Fail> {
     let patterns = patterns_of(&rt, alloc, CHAIN)?;
     let tree = tree_of(&rt, alloc, first(&rt, &patterns), &[1, 0], &[1, 1, 1])?;
     for (parent, u, hangs) in HANGING {
-        assert_eq!(rt; tree.is_child(parent, u), hangs);
+        assert!(rt; tree.is_child(parent, u) == hangs, "{parent} and {u}");
     }
     Ok(())
 }
@@ -146,8 +181,8 @@ fn a_vertex_hangs_from_its_parent_alone(rt: HostRuntime) -> Result<(), Fail> {
 #[test]
 fn the_first_of_the_least_keys_is_chosen(rt: HostRuntime) -> Result<(), Fail> {
     let keys = [5, 2, 7, 2, 1];
-    assert_eq!(rt; least_by(&keys, |i| i < 4), Some(1));
-    assert_eq!(rt; least_by(&keys, |i| i == 2), Some(2));
-    assert_eq!(rt; least_by(&keys, |i| i > 4), None);
+    assert!(rt; least_by(&keys, |i| i < 4) == Some(1));
+    assert!(rt; least_by(&keys, |i| i == 2) == Some(2));
+    assert!(rt; least_by(&keys, |i| i > 4).is_none());
     Ok(())
 }

@@ -1,9 +1,0 @@
-use Rattle.std.proofs.Common.{ℕ, List, length, ap, ◌∙◌}
-use Rattle.std.proofs.lemmas.List.FromFn.{length-map-range_with_len}
-use Rattle.flux_model.specs.Tree.{children}
-use Rattle.worked_rows.proofs.state_rows.check.Goals as goal
-
-pub check_rows-requires-clause-vertices : goal.check_rows-requires-clause-vertices
-check_rows-requires-clause-vertices g c =
-    ap (λ (l : List ℕ). length l) c.in_ok-dcg.ensures.children
-    ∙ length-map-range_with_len (λ u. length (children c.in_ok-tree.tree u)) 0 (length c.in_ok-tree.tree.links)
