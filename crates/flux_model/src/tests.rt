@@ -1,6 +1,6 @@
 //! Calls with ample memory, each answer beside a value that was worked out by hand.
 
-use crate::{Code, Delta, Deltas, Labels, Limits, Map, Maps, Partial, Text, Triple, place};
+use crate::{Code, Labels, Limits, Partial, Text, Triple, place};
 use std::alloc::{AllocError, Global};
 use std::cmp::Ordering;
 use std::process::Abort;
@@ -25,51 +25,6 @@ fn assert_labels(rt: &impl Abort, labels: &Labels, names: &[&[u8]]) {
     for (i, name) in names.iter().enumerate() {
         assert_eq!(rt; labels.get(i).bytes(), *name, "at {i}");
     }
-}
-
-fn map_of(alloc: Global, ids: &[u32]) -> Result<Map, AllocError> {
-    let mut map = Map::new(alloc);
-    for id in ids {
-        map.add(*id)?;
-    }
-    Ok(map)
-}
-
-fn maps_of(alloc: Global, lists: &[&[u32]]) -> Result<Maps, AllocError> {
-    let mut maps = Maps::new(alloc);
-    for ids in lists {
-        maps.add(map_of(alloc, ids)?)?;
-    }
-    Ok(maps)
-}
-
-fn assert_map(rt: &impl Abort, map: &Map, ids: &[u32]) {
-    assert_eq!(rt; map.len(), ids.len());
-    for (i, id) in ids.iter().enumerate() {
-        assert_eq!(rt; map.get(i), *id, "at {i}");
-    }
-}
-
-fn assert_maps(rt: &impl Abort, maps: &Maps, lists: &[&[u32]]) {
-    assert_eq!(rt; maps.len(), lists.len());
-    for (k, ids) in lists.iter().enumerate() {
-        assert_map(rt, maps.get(k), ids);
-    }
-}
-
-fn add_delta(
-    rt: &impl Abort,
-    deltas: &mut Deltas,
-    gained: Maps,
-    lost: Maps,
-) -> Result<(), AllocError> {
-    assert!(rt; deltas.len() == 0);
-    assert!(rt; 0 < gained.len());
-    deltas.add(Delta {
-        pattern: 3,
-        gained,
-        lost,
-    })
 }
 
 #[test]
@@ -121,64 +76,6 @@ fn labels_are_kept_once_and_in_order(rt: HostRuntime) -> Result<(), Fail> {
     assert_labels(&rt, &more, &[b"a", b"aa", b"b", b"city"]);
     assert!(rt; labels.within(&more));
     assert!(rt; !more.within(&labels));
-    Ok(())
-}
-
-#[test]
-fn ids_make_maps(rt: HostRuntime) -> Result<(), Fail> {
-    let mut maps = Maps::new(rt.alloc());
-    maps.add_ids(&[3, 1])?;
-    maps.add(Map::from_ids(rt.alloc(), &[4294967295])?)?;
-    assert_maps(&rt, &maps, &[&[3, 1], &[4294967295]]);
-    Ok(())
-}
-
-#[test]
-fn maps_are_sorted(rt: HostRuntime) -> Result<(), Fail> {
-    let mut maps = maps_of(rt.alloc(), &[&[2], &[1, 9, 0], &[1, 9], &[1, 9]])?;
-    assert_maps(&rt, &maps, &[&[2], &[1, 9, 0], &[1, 9], &[1, 9]]);
-    maps.sort()?;
-    assert_maps(&rt, &maps, &[&[1, 9], &[1, 9], &[1, 9, 0], &[2]]);
-    Ok(())
-}
-
-#[test]
-fn deltas_are_sorted(rt: HostRuntime) -> Result<(), Fail> {
-    let mut deltas = Deltas::new(rt.alloc());
-    let gained = maps_of(rt.alloc(), &[&[10, 1], &[9, 2]])?;
-    let lost = maps_of(rt.alloc(), &[&[5], &[4]])?;
-    add_delta(&rt, &mut deltas, gained, lost)?;
-    deltas.sort()?;
-    assert_eq!(rt; deltas.len(), 1);
-    let delta = deltas.get(0);
-    assert_eq!(rt; delta.pattern, 3);
-    assert_maps(&rt, &delta.gained, &[&[9, 2], &[10, 1]]);
-    assert_maps(&rt, &delta.lost, &[&[4], &[5]]);
-    Ok(())
-}
-
-#[test]
-fn a_delta_without_a_map_is_left_out(rt: HostRuntime) -> Result<(), Fail> {
-    let alloc = rt.alloc();
-    let mut deltas = Deltas::new(alloc);
-    let empty = Delta {
-        pattern: 0,
-        gained: Maps::new(alloc),
-        lost: Maps::new(alloc),
-    };
-    assert!(rt; !empty.has_map());
-    deltas.add_unless_empty(empty)?;
-    assert!(rt; deltas.len() == 0);
-    let lost = Delta {
-        pattern: 1,
-        gained: Maps::new(alloc),
-        lost: maps_of(alloc, &[&[4]])?,
-    };
-    assert!(rt; lost.has_map());
-    deltas.add_unless_empty(lost)?;
-    assert_eq!(rt; deltas.len(), 1);
-    assert_eq!(rt; deltas.get(0).pattern, 1);
-    assert_maps(&rt, &deltas.get(0).lost, &[&[4]]);
     Ok(())
 }
 

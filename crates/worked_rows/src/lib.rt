@@ -9,7 +9,7 @@
 //! - `walk_rows`: the row of a vertex, as it is walked for one label.
 //! - `state_rows`: the states of pairs over a graph.
 //! - `search_rows`: all embeddings over graphs that change line by line, and those that send an edge to a triple.
-//! - `registry_rows`: many patterns over one graph.
+//! - `registry_rows`: many patterns over one graph. `map_rows`: maps and deltas, as they are found and sorted.
 #![tactic(auto)]
 
 #[cfg(test)]
@@ -18,6 +18,8 @@ mod card_rows;
 mod join_rows;
 #[cfg(test)]
 mod made;
+#[cfg(test)]
+mod map_rows;
 #[cfg(test)]
 mod order_rows;
 #[cfg(test)]
