@@ -1,0 +1,11 @@
+pub mod PermutationLemmas
+pub mod PlanLemmas
+pub mod JointLemmas
+pub mod RowJointLemmas
+pub mod SightLemmas
+pub mod ViewLemmas
+pub mod DoneLemmas
+pub mod LabelCostLemmas
+pub mod UpdateLemmas
+pub mod VertexLemmas
+pub mod CallerLemmas
