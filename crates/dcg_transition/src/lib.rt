@@ -1,8 +1,11 @@
-//! How the rows of a pattern's states come to be exact over a graph.
+//! How the rows of a pattern's states come to be exact over a graph, and stay so.
 //!
 //! A pattern vertex other than the root hangs from its parent by a tree edge. Of a graph vertex that the parent reaches, a row
 //! is walked along that edge, and each end that fits is reached in turn. So the rows are made from the root down, and what
 //! leads on to explicit pairs is counted from the leaves up.
+//!
+//! The calls by which they move with the graph are handed on from `dcg_updates`: `after_insert` and `after_delete` where a triple
+//! came or went, and `after_vertex` where a vertex did.
 //!
 //! - `rows`: `build`, all rows of a tree over a graph.
 //! - `levels`: the depths of the vertices of a tree, and how many children each has.
@@ -15,4 +18,5 @@ mod levels;
 mod reach;
 mod rows;
 
+pub use dcg_updates::{after_delete, after_insert, after_vertex};
 pub use rows::build;
