@@ -6,7 +6,7 @@
 //! - `card_rows`: how often the edges and vertices of a pattern fit.
 //! - `tree_rows`: the tree that cards choose. `order_rows`: the order in which a search goes along it.
 //! - `join_rows`: what is asked of one candidate of a search.
-//! - `walk_rows`: the row of a vertex, as it is walked for one label.
+//! - `walk_rows`: the row of a vertex, as it is walked, and the branches of a tree.
 //! - `state_rows`: the states of pairs over a graph.
 //! - `search_rows`: all embeddings over graphs that change line by line, and those that send an edge to a triple.
 //! - `registry_rows`: many patterns over one graph. `map_rows`: maps and deltas, as they are found and sorted.
