@@ -121,7 +121,20 @@ fn are_rows(tree: &QueryTree, dcg: &Dcg, row: &Row) -> bool
     dcg.stored() == row.stored
         && tree.vertex_count() == row.live.len()
         && has_live_counts(dcg, row.live)
+        && count_rows(tree, dcg) as u64 == row.stored
         && has_states(tree, dcg, row.states)
+}
+
+/// How many vertices have a row, over all pattern vertices.
+fn count_rows(tree: &QueryTree, dcg: &Dcg) -> usize
+    requires whole { dcg.now.is_broken ≡ false }
+    requires vertices { length dcg.now.children ≡ length tree.now.links }
+{
+    let mut count: usize = 0;
+    for u in 0..tree.vertex_count() {
+        count = count.saturating_add(dcg.row_vertices(u).len());
+    }
+    count
 }
 
 /// Whether so many pairs of each pattern vertex are explicit.
