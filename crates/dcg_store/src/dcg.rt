@@ -62,6 +62,7 @@ impl Dcg {
         requires vertex { u < length self.now.children }
         ensures { result ≡ slice_index self.now.children u }
     {
+        // For the proof: the rows that are kept.
         let _stored = self.stored;
         self.children[u]
     }
@@ -74,6 +75,7 @@ impl Dcg {
         ensures step { steps.new ≡ steps.old + 1 }
     {
         steps.tick();
+        // For the proof: the rows that are kept.
         let _stored = self.stored;
         self.layers[u].state(v)
     }
@@ -107,6 +109,7 @@ impl Dcg {
         requires vertex { u < length self.now.children }
         ensures { result ≡ live_count self.now u }
     {
+        // For the proof: the rows that are kept.
         let _stored = self.stored;
         self.layers[u].live()
     }
@@ -118,6 +121,7 @@ impl Dcg {
         ensures once { IsDistinct nat_eq result.now }
         ensures rows { (v : ℕ) → list_any (nat_eq v) result.now ≡ is_some (row_at self.now u v) }
     {
+        // For the proof: the rows that are kept.
         let _stored = self.stored;
         self.layers[u].vertices()
     }
@@ -196,6 +200,7 @@ impl Dcg {
         ensures step { steps.new ≡ steps.old + 1 }
     {
         steps.tick();
+        // For the proof: the rows that are kept.
         let _stored = self.stored;
         self.layers[u].raise_out(v, j);
     }
@@ -212,6 +217,7 @@ impl Dcg {
         ensures step { steps.new ≡ steps.old + 1 }
     {
         steps.tick();
+        // For the proof: the rows that are kept.
         let _stored = self.stored;
         self.layers[u].lower_out(v, j);
     }

@@ -146,6 +146,7 @@ impl Layer {
         requires { IsSomeAnd (get self.old v) (λ row. (j < length row.outs) × (slice_index row.outs j < 2 ^ 32 - 1)) }
         ensures { self.new ≡ with_changed (more_outs j) self.old v }
     {
+        // For the proof: a map has fewer than 2^64 rows.
         let _len = self.rows.len();
         let Some(row) = self.rows.get_mut(&v) else {
             return;
@@ -161,6 +162,7 @@ impl Layer {
         requires { IsSomeAnd (get self.old v) (λ row. (j < length row.outs) × (0 < slice_index row.outs j)) }
         ensures { self.new ≡ with_changed (fewer_outs j) self.old v }
     {
+        // For the proof: a map has fewer than 2^64 rows.
         let _len = self.rows.len();
         let Some(row) = self.rows.get_mut(&v) else {
             return;

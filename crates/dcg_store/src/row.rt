@@ -98,6 +98,7 @@ impl Row {
         requires room { slice_index self.old.outs j < 2 ^ 32 - 1 }
         ensures { self.new ≡ more_outs j self.old }
     {
+        // For the proof: the counter of `j` is there.
         let _len = self.counters.len();
         self.counters[j + 1] += 1;
     }
@@ -108,6 +109,7 @@ impl Row {
         requires some { 0 < slice_index self.old.outs j }
         ensures { self.new ≡ fewer_outs j self.old }
     {
+        // For the proof: the counter of `j` is there.
         let _len = self.counters.len();
         self.counters[j + 1] -= 1;
     }

@@ -44,6 +44,7 @@ impl Partial {
         requires { u < length self.now }
         ensures { slice_get self.now u ≡ Some result }
     {
+        // For the proof: there are as many places as vertices, at most 32.
         let _len = self.len;
         self.places[u]
     }
@@ -53,6 +54,7 @@ impl Partial {
         requires { u < length self.old }
         ensures { self.new ≡ slice_set self.old u (Some v) }
     {
+        // For the proof: there are as many places as vertices, at most 32.
         let _len = self.len;
         self.places[u] = Some(v);
     }
@@ -62,6 +64,7 @@ impl Partial {
         requires { u < length self.old }
         ensures { self.new ≡ slice_set self.old u None }
     {
+        // For the proof: there are as many places as vertices, at most 32.
         let _len = self.len;
         self.places[u] = None;
     }

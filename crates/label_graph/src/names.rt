@@ -53,6 +53,7 @@ impl Names {
         ensures value { result ≡ count_by is_some self.now }
         ensures table { IsTable self.now }
     {
+        // For the proof: the numbers are those of a table.
         let _ = &self.numbers;
         self.slots.len()
     }
