@@ -73,15 +73,14 @@ impl SearchOrder {
 ///
 /// `live` has for each vertex how many candidates it has. Of the vertices that are not placed and have a placed neighbour in
 /// the tree, the one with the fewest candidates comes next, of equals the lowest. `start` has to be below the tree's
-/// `vertex_count`, which is at most 32, and `live` has to be as long. It takes no memory.
+/// `vertex_count`, and `live` has to have so many numbers. It takes no memory.
 pub fn order(tree: &QueryTree, start: usize, live: &[u64]) -> SearchOrder
-    requires few { length tree.now.links ≤ 32 }
     requires start { start < length tree.now.links }
     requires live { length live.now ≡ length tree.now.links }
     ensures order { result ≡ search_order tree.now start live.now }
     ensures all { IsOrderOf tree.now result }
 {
-    // For the proof: every vertex hangs from the root, so that none is left out.
+    // For the proof: every vertex hangs from the root, so that none is left out, and they are few.
     let _root = tree.root();
     let mut growth = Growth::new(tree, start);
     for _ in 0..tree.vertex_count() {

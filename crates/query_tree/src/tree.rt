@@ -1,5 +1,5 @@
 //! `QueryTree`: the spanning tree of a pattern.
-ghost use Rattle.std.specs.Prelude.{◌≡◌, ◌≢◌, ◌<◌, ◌↔◌, Some, None, IfOk, MatchOption};
+ghost use Rattle.std.specs.Prelude.{◌≡◌, ◌≢◌, ◌<◌, ◌≤◌, ◌↔◌, Some, None, IfOk, MatchOption};
 ghost use Rattle.std.specs.Prelude.{length, slice_get, slice_index};
 ghost use Rattle.flux_model.specs.Pattern.{HasEnds, vertex_count};
 ghost use Rattle.flux_model.specs.Tree.{link_at, is_child, children, non_tree, root_of, tree_for, IsTree, BelongsTo};
@@ -11,7 +11,7 @@ use flux_model::{Cards, Pattern, PatternEdge, TreeLink};
 use std::alloc::{AllocError, Global};
 use std::marker::Model;
 
-/// A spanning tree of a pattern: a root, and for each other vertex the link that it hangs by.
+/// A spanning tree of a pattern: a root, and for each of the other vertices, 31 at most, the link that it hangs by.
 #[derive(Drop)]
 pub struct QueryTree {
     grown: Growth,
@@ -51,17 +51,18 @@ impl QueryTree {
         finish(alloc, growth)
     }
 
-    /// How many vertices there are.
+    /// How many vertices there are, 1 to 32.
     pub fn vertex_count(&self) -> usize
         ensures { result ≡ length self.now.links }
     {
         self.grown.vertex_count()
     }
 
-    /// The root, from which every vertex hangs.
+    /// The root, from which every vertex hangs. With it there are at most 32.
     pub fn root(&self) -> usize
         ensures root { result ≡ self.now.root }
         ensures tree { IsTree self.now }
+        ensures few { length self.now.links ≤ 32 }
     {
         self.grown.root()
     }
@@ -130,7 +131,8 @@ fn lower_end(edge: &PatternEdge, cards: &[u64]) -> usize
 
 /// The tree with the children of each vertex and the edges that it leaves out.
 fn finish(alloc: Global, grown: Growth) -> Result<QueryTree, AllocError>
-    requires { IsTree grown }
+    requires tree { IsTree grown }
+    requires few { length grown.links ≤ 32 }
     ensures { IfOk result (λ tree. tree ≡ grown) }
 {
     let mut children = Vec::new(alloc);

@@ -78,7 +78,6 @@ fn is_right(rt: &impl Abort, alloc: Global, row: &Row) -> Result<bool, AllocErro
     let tree = tree_of(rt, alloc, first(rt, &patterns), row.edges, row.vertices)?;
     assert!(rt; row.start < tree.vertex_count());
     assert!(rt; row.live.len() == tree.vertex_count());
-    assert!(rt; tree.vertex_count() <= 32);
     let order = order(&tree, row.start, row.live);
     Ok(
         tree.root() == row.root
