@@ -6,6 +6,7 @@ use Rattle.std.proofs.lemmas.Bool.{and_parts, or_cases, or_parts, or_right, eqb-
 use Rattle.std.proofs.lemmas.Grind.{get_or-set_at}
 use Rattle.std.proofs.lemmas.List.{length-set, get_or-set_other, length-replicate}
 use Rattle.std.proofs.lemmas.Option.{slice_get-get_or}
+use Rattle.flux_model.specs.Embedding.{is_embedding}
 use Rattle.flux_model.specs.Exact.{StateRows}
 use Rattle.flux_model.specs.Graph.{Graph, has_triple, has_vertex}
 use Rattle.flux_model.specs.Order.{SearchOrder, are_neighbours}
@@ -27,7 +28,7 @@ use Rattle.graph_rows.specs.declared.direction.Direction.{Direction}
 use Rattle.graph_rows.specs.declared.direction.Direction.TheVariants.{Out, In as Inward}
 use Rattle.tree_search.specs.Given.{IsReady, IsGiven, IsRowAt, nth_vertex, nth_anchor, may_have, edge_of, edge_between}
 use Rattle.tree_search.specs.AimedMembers.{members_at, members_over_at}
-use Rattle.tree_search.specs.Members.{GrewUpTo}
+use Rattle.tree_search.specs.Members.{goes_on, GrewUpTo}
 use Rattle.tree_search.specs.declared.aim.Aim.{Aim}
 use Rattle.tree_search.proofs.GrowthLemmas.{grew_none}
 use Rattle.tree_search.proofs.MemberLemmas.{given_id, members_split}
@@ -270,6 +271,35 @@ module _ (q : PatternGraph) (t : QueryTree) (d : StateRows) (g : Graph) (o : Sea
   inside_tree b (inl (l, e, same)) = link_within t b l e
   inside_tree b (inr (l, e, same)) = omega (arith, parent_within t ready.belongs.tree w l e, same)
 
+  -- ---- ids that are given, and those that embeddings give
+
+  -- an id that is given is a vertex of the graph
+  pub given_stands : (u v : ℕ) → id_of p u ≡ Some v → has_vertex g v ≡ true
+  given_stands u v has =
+      let is = known.explicit u v has in
+      vertex_of_fits q g u v (fits_of (length t.links) (and_parts _ _ is).0)
+    where
+      fits_of : (n : ℕ) → reaches_within n (joined q t g) u v ≡ true → (joined q t g).fits u v ≡ true
+      fits_of zero h = absurd (let bad : false ≡ true = h in cc)
+      fits_of (suc n) h = (and_parts _ _ h).0
+
+  -- the pair of the id that an embedding gives to the next vertex is explicit
+  pub member_explicit : (m : List ℕ) → is_embedding q g m ≡ true → is_explicit (joined q t g) w (slice_index m w) ≡ true
+  member_explicit m is = explicit_chosen q t g ready.belongs m is w (omega (arith, vertex_inside, known.places))
+
+  -- the list has the id that each embedding with the given ids gives to it
+  abbrev pub HasMembers : List ℕ → Type 0
+  HasMembers xs = (m : List ℕ) → is_embedding q g m ≡ true → goes_on p m ≡ true → In xs (slice_index m w)
+
+  -- what goes on is split by the ids of a list that has them all
+  pub members_listed : (aim : Aim) (xs : List ℕ) → IsDistinct nat_eq xs → HasMembers xs → IsPermutation (members_over_at q g aim p w xs) (members_at q g aim p)
+  members_listed aim xs apart has =
+      members_split q g aim p w vertex_inside vertex_free xs apart (λ m i. let r = member q g aim p m i in has m r.0 r.1)
+
+  -- before the first candidate all that goes on is to come
+  pub candidates_start : (aim : Aim) (xs : List ℕ) → IsDistinct nat_eq xs → HasMembers xs → (old : List (List ℕ)) → GrewUpTo old old (members_over_at q g aim p w xs) (members_at q g aim p)
+  candidates_start aim xs apart has old = grew_none old (members_over_at q g aim p w xs) (members_at q g aim p) (members_listed aim xs apart has)
+
   -- ---- the start
 
   -- with an id for the first vertex of the order, one is given
@@ -298,13 +328,7 @@ module _ (q : PatternGraph) (t : QueryTree) (d : StateRows) (g : Graph) (o : Sea
 
     -- the anchor's id is a vertex of the graph
     pub anchor_stands : has_vertex g v ≡ true
-    anchor_stands =
-        let is = known.explicit a v row.anchor in
-        vertex_of_fits q g a v (fits_of (length t.links) (and_parts _ _ is).0)
-      where
-        fits_of : (n : ℕ) → reaches_within n (joined q t g) a v ≡ true → (joined q t g).fits a v ≡ true
-        fits_of zero h = absurd (let bad : false ≡ true = h in cc)
-        fits_of (suc n) h = (and_parts _ _ h).0
+    anchor_stands = given_stands a v row.anchor
 
     -- with an id to which the tree edge leads, one more is given
     pub given_next : (x : ℕ) → may_have q t g p w x ≡ true → has_triple g (triple_of direction v label x) ≡ true → IsGiven q t g o (suc k) (with_id p w x)
@@ -342,27 +366,12 @@ module _ (q : PatternGraph) (t : QueryTree) (d : StateRows) (g : Graph) (o : Sea
     -- ---- none is lost
 
     -- an embedding's id is a candidate
-    pub member_in_row : (aim : Aim) (m : List ℕ) → In (members_at q g aim p) m → has_triple g (triple_of direction v label (slice_index m w)) ≡ true
-    member_in_row aim m i =
-        let r = member q g aim p m i in
+    pub member_in_row : (m : List ℕ) → is_embedding q g m ≡ true → goes_on p m ≡ true → has_triple g (triple_of direction v label (slice_index m w)) ≡ true
+    member_in_row m is goes =
         let number = tie_number q t ready.belongs w a tied in
-        ap (has_triple g) (row_triple (slice_index m w) ∙ triple_at edge w a (slice_index m w) v (tie_apart q t ready.belongs w a tied) (tie_joins q t ready.belongs w a tied) (slice_index m) refl (given_id p m a v r.1 row.anchor))
-        ∙ edge_has q g m r.0 (edge_between t w a) number
+        ap (has_triple g) (row_triple (slice_index m w) ∙ triple_at edge w a (slice_index m w) v (tie_apart q t ready.belongs w a tied) (tie_joins q t ready.belongs w a tied) (slice_index m) refl (given_id p m a v goes row.anchor))
+        ∙ edge_has q g m is (edge_between t w a) number
 
     -- the vertex hangs from its anchor, or its anchor from it
     pub anchor_hangs : HangsFrom t a w ⊎ HangsFrom t w a
     anchor_hangs = tied
-
-    -- the candidates are listed once each
-    abbrev pub AreCandidates : List ℕ → Type 0
-    AreCandidates xs = (x : ℕ) → is_explicit (joined q t g) w x ≡ true → has_triple g (triple_of direction v label x) ≡ true → In xs x
-
-    -- what goes on is split by the candidates of a list that has them all
-    pub row_split : (aim : Aim) (xs : List ℕ) → IsDistinct nat_eq xs → AreCandidates xs → IsPermutation (members_over_at q g aim p w xs) (members_at q g aim p)
-    row_split aim xs apart has =
-        members_split q g aim p w vertex_inside vertex_free xs apart
-        (λ m i. has (slice_index m w) (explicit_chosen q t g ready.belongs m (member q g aim p m i).0 w (omega (arith, vertex_inside, known.places))) (member_in_row aim m i))
-
-    -- before the first candidate all that goes on is to come
-    pub row_start : (aim : Aim) (xs : List ℕ) → IsDistinct nat_eq xs → AreCandidates xs → (old : List (List ℕ)) → GrewUpTo old old (members_over_at q g aim p w xs) (members_at q g aim p)
-    row_start aim xs apart has old = grew_none old (members_over_at q g aim p w xs) (members_at q g aim p) (row_split aim xs apart has)

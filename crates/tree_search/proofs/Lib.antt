@@ -15,5 +15,6 @@ pub mod SentLemmas
 pub mod AimLemmas
 pub mod EdgeLemmas
 pub mod LookLemmas
+pub mod WayLemmas
 pub mod CandidateLemmas
 pub mod BarrenLemmas

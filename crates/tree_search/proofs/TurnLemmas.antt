@@ -15,7 +15,6 @@ use Rattle.flux_model.specs.Graph.{Graph, ids, has_triple, has_vertex}
 use Rattle.flux_model.specs.Order.{SearchOrder}
 use Rattle.flux_model.specs.Partial.{id_of, with_id}
 use Rattle.flux_model.specs.Pattern.{PatternGraph, vertex_count}
-use Rattle.flux_model.specs.States.{joined, is_explicit}
 use Rattle.flux_model.specs.Tree.{QueryTree}
 use Rattle.flux_model.specs.declared.graph.Vertex.{Vertex}
 use Rattle.flux_model.specs.Members.{In}
@@ -35,7 +34,7 @@ use Rattle.tree_search.proofs.MemberLemmas.{members_split}
 use Rattle.tree_search.proofs.EmbeddingLemmas.{id_fits, vertex_of_fits}
 use Rattle.graph_rows.proofs.SumLemmas.{distinct_ids}
 use Rattle.tree_search.proofs.PassLemmas.{member, dead_end}
-use Rattle.tree_search.proofs.GivenLemmas.{cleared, given_none, vertex_inside, vertex_free, vertex_open, given_first, given_next, row_start}
+use Rattle.tree_search.proofs.GivenLemmas.{cleared, given_none, vertex_inside, vertex_free, vertex_open, given_first, given_next, candidates_start, HasMembers}
 use Rattle.tree_search.proofs.WholeLemmas.{all_from_none}
 
 module _ (q : PatternGraph) (t : QueryTree) (d : StateRows) (g : Graph) (o : SearchOrder) (ready : IsReady q t d g o) (k : ℕ) (few : k < length (vertices o)) (p : List (Option ℕ)) (known : IsGiven q t g o k p)
@@ -99,6 +98,11 @@ module _ (q : PatternGraph) (t : QueryTree) (d : StateRows) (g : Graph) (o : Sea
       subst (λ l. IsAimed q aim l) (placed x put is)
       (aimed_with q p (nth_vertex o k) x (vertex_inside q t d g o ready k few p known) aim known_aim (vertex_free q t d g o ready k few p known) (taken aim x told may passes).0)
 
+  -- before the first candidate all is to come
+  pub turns_start : (aim : Aim) (xs : List ℕ) → IsDistinct nat_eq xs → HasMembers q t d g o ready k few p known xs → (old : List (List ℕ)) → GrewUpTo old old (members_over_at q g aim p w xs) (members_at q g aim p)
+  turns_start aim xs apart has old =
+      subst (λ u. GrewUpTo old old (members_over_at q g aim p u xs) (members_at q g aim p)) (sym at) (candidates_start q t d g o ready k few p known aim xs apart has old)
+
   module _ (aim : Aim) (some : 1 ≤ k) (v : ℕ) (direction : Direction) (label : List ℕ) (row : IsRowAt q t o k p v direction label) where
     -- with a candidate that passes, one more vertex is given
     pub turn_given : (x : ℕ) (xs rest : List ℕ) → xs ≡ x ∷ rest → ((y : ℕ) → In xs y → has_triple g (triple_of direction v label y) ≡ true)
@@ -107,11 +111,6 @@ module _ (q : PatternGraph) (t : QueryTree) (d : StateRows) (g : Graph) (o : Sea
         let stands = stand x (subst (λ l. In l x) (sym ends) (inl refl)) in
         subst (λ n. IsGiven q t g o n put) (omega arith)
         (subst (λ l. IsGiven q t g o (suc k) l) (placed x put is) (given_next q t d g o ready k few p known some v direction label row x (taken aim x told may passes).1 stands))
-
-    -- before the first candidate all is to come
-    pub turns_start : (xs : List ℕ) → IsDistinct nat_eq xs → ((x : ℕ) → is_explicit (joined q t g) (nth_vertex o k) x ≡ true → has_triple g (triple_of direction v label x) ≡ true → In xs x)
-        → (old : List (List ℕ)) → GrewUpTo old old (members_over_at q g aim p w xs) (members_at q g aim p)
-    turns_start xs apart has old = subst (λ u. GrewUpTo old old (members_over_at q g aim p u xs) (members_at q g aim p)) (sym at) (row_start q t d g o ready k few p known some v direction label row aim xs apart has old)
 
 -- the candidates that are left are candidates
 pub others_stand : (test : ℕ → Bool) (x : ℕ) (xs rest : List ℕ) → xs ≡ x ∷ rest → ((y : ℕ) → In xs y → test y ≡ true) → (y : ℕ) → In rest y → test y ≡ true

@@ -4,4 +4,5 @@ pub mod SearchCosts
 pub mod Aim
 pub mod AimedMembers
 pub mod LookCost
+pub mod Ways
 pub mod CandidatesLeft

@@ -2,13 +2,15 @@
 //! that it can.
 //!
 //! A search gives the vertices of a pattern ids in an order in which each stands next to one before it in the pattern's tree.
-//! A candidate for a vertex comes from the row of that neighbour's id, or from the index where it has fewer, and is taken where
-//! its pair is explicit and where the edges that the tree leaves out, the mode and the class allow it:
+//! A candidate for a vertex comes from the row of that neighbour's id, from a shorter row of another neighbour's, or from the
+//! index where it has fewer, and is taken where its pair is explicit and where the edges that the tree leaves out, the mode and
+//! the class allow it:
 //!
 //! - `found`: what takes the embeddings, one after another.
 //! - `aim`: which embeddings a search is for.
 //! - `explicit_pairs`: what the index tells of them.
-//! - `candidates`: the ids that a vertex may have beside its anchor's, from the shorter of two lists.
+//! - `candidates`: the ids that a vertex may have beside its anchor's, from the shortest of some lists.
+//! - `other_rows`: the shorter row of another neighbour's id.
 //! - `search`: how a search goes on from the ids that are given.
 //! - `starts`: `all`, the search for all, and `at_edge`, that for those that use a triple.
 //!
@@ -19,6 +21,7 @@ mod aim;
 mod candidates;
 mod explicit_pairs;
 mod found;
+mod other_rows;
 mod search;
 mod starts;
 

@@ -2,6 +2,7 @@
 ghost use Rattle.std.specs.Prelude.{◌≡◌, ◌≤◌, ◌+◌, ◌<◌, ◌++◌, ℕ, [], ◌∷◌, Some, None, IsTrue, IsSome, OnOk, OnErr};
 ghost use Rattle.std.specs.Prelude.{length, slice_get, is_some, nat_eq};
 ghost use Rattle.std.specs.List.{IsDistinct, list_any};
+ghost use Rattle.flux_model.specs.Costs.{degree};
 ghost use Rattle.flux_model.specs.Exact.{row_at};
 ghost use Rattle.flux_model.specs.Order.{are_neighbours};
 ghost use Rattle.flux_model.specs.Pattern.{vertex_count};
@@ -11,15 +12,18 @@ ghost use Rattle.match_order.specs.Whole.{vertices};
 ghost use Rattle.nontree_test.specs.Numbered.{AreNumbersOf};
 ghost use Rattle.tree_search.specs.Aim.{IsAim, IsAimed};
 ghost use Rattle.tree_search.specs.AimedMembers.{members_at, may_take};
+ghost use Rattle.tree_search.specs.CandidatesLeft.{walked};
 ghost use Rattle.tree_search.specs.Given.{IsReady, IsGiven, IsRowAt, nth_vertex, may_have, edge_of, edge_between};
 ghost use Rattle.tree_search.specs.LookCost.{look_from};
 ghost use Rattle.tree_search.specs.Members.{ids_of, GrewByAll, GrewBySome};
 ghost use Rattle.tree_search.specs.SearchCosts.{MeetsNoDeadEnd, test_cost, members_cost};
+ghost use Rattle.tree_search.specs.Ways.{IsWay, turns};
 
 use crate::aim::{Aim, keeps_aim};
 use crate::candidates::Candidates;
 use crate::explicit_pairs::is_explicit;
 use crate::found::Found;
+use crate::other_rows::shorter_row;
 use dcg_store::Dcg;
 use flux_model::{Ledger, Partial, Pattern, Steps};
 use graph_rows::{Direction, GraphRow};
@@ -109,11 +113,17 @@ fn candidates_at<'a, G: HoldGraph>(
         result.row.vertex result.row.direction result.row.label.now }
     ensures number { IsNumberIn (G.label_text search.now.graph.now) (G.graph search.now.graph.now)
         result.row.label.now result.row.label_number }
+    ensures way { IsWay (G.label_text search.now.graph.now) search.now.pattern.now (G.graph search.now.graph.now)
+        partial.now (nth_vertex search.now.order k) (walked result) }
+    ensures short { turns (G.graph search.now.graph.now) (walked result) ≤ degree (G.graph search.now.graph.now) result.row.vertex }
     ensures once { IsDistinct nat_eq result.layer.now }
     ensures rows { (v : ℕ) → list_any (nat_eq v) result.layer.now ≡ is_some (row_at search.now.dcg.now (nth_vertex search.now.order k) v) }
 {
+    let row = row_to(search, k, partial);
+    let shorter = shorter_row(search, k, partial, &row);
     Candidates {
-        row: row_to(search, k, partial),
+        row,
+        shorter,
         layer: search.dcg.row_vertices(search.order.vertex(k)),
     }
 }

@@ -1,10 +1,9 @@
-use Rattle.std.proofs.Common.{ℕ, rules, ◌≡◌, true, inl, sym, subst, ◌+◌, ◌<◌, ◌≤◌, length, refl, ◌∙◌, arith}
+use Rattle.std.proofs.Common.{rules, ◌≡◌, true, inl, slice_index, sym, subst, ◌+◌, ◌<◌, ◌≤◌, length, refl, ◌∙◌, arith}
 use Rattle.std.proofs.lemmas.Result.{on_ok_weaker, on_err_weaker}
 use Rattle.flux_model.specs.Graph.{has_triple}
 use Rattle.match_order.specs.Whole.{vertices}
 use Rattle.graph_rows.specs.Directions.{triple_of}
-use Rattle.flux_model.specs.States.{joined, is_explicit}
-use Rattle.tree_search.specs.CandidatesLeft.{leads_to, left, reads}
+use Rattle.tree_search.specs.CandidatesLeft.{left, reads}
 use Rattle.tree_search.proofs.CandidateLemmas.{layer_has, start_apart, start_has, start_stands, start_few}
 use Rattle.flux_model.specs.Members.{In}
 use Rattle.tree_search.specs.Given.{nth_vertex}
@@ -14,7 +13,7 @@ use Rattle.tree_search.specs.AimedMembers.{members_at, may_take}
 use Rattle.tree_search.specs.Members.{ids_of}
 use Rattle.tree_search.proofs.AimLemmas.{aimed_is}
 use Rattle.tree_search.proofs.GrowthLemmas.{grew_one, grew_by_none, any_err}
-use Rattle.tree_search.proofs.GivenLemmas.{anchor_stands}
+use Rattle.tree_search.proofs.GivenLemmas.{member_explicit, member_in_row, HasMembers}
 use Rattle.tree_search.proofs.WholeLemmas.{one_member}
 use Rattle.tree_search.proofs.TurnLemmas.{turn_open, turn_back, turn_found, turn_stop, turn_skip, turn_given, turn_aimed, turns_start, others_stand}
 use Rattle.tree_search.specs.SearchCosts.{cost_from, members_cost}
@@ -41,11 +40,7 @@ returns-then-k-len-clause-some g t c =
     c.hand_over.ensures.err
 
 pub first-at-requires : goal.first-at-requires
-first-at-requires g t c =
-    let s = c.args.search.now in
-    let candidates = c.candidates_at-candidates.result in
-    let r = candidates.row in
-    anchor_stands s.pattern.now s.tree.now s.dcg.now (g.G.HoldGraph.graph s.graph.now) s.order c.requires.ready c.args.k (omega (arith, c.requires.few, c.if-k-len.false, c.len.ensures)) c.args.partial.now c.requires.given c.requires.some r.vertex r.direction r.label.now c.candidates_at-candidates.ensures.row
+first-at-requires g t c = c.candidates_at-candidates.ensures.way.stands
 
 pub loop-x-init : goal.loop-x-init
 loop-x-init g t c =
@@ -60,27 +55,31 @@ loop-x-init g t c =
     let begun = c.first-at.ensures.start in
     let xs = left outs ins graph candidates at in
     let n = reads outs ins candidates at in
-    let most = start_few outs ins graph candidates at begun in
+    let few : c.args.k < length (vertices s.order) = omega (arith, c.requires.few, c.if-k-len.false, c.len.ensures) in
+    let most = start_few outs ins graph candidates c.candidates_at-candidates.ensures.short at begun in
     let apart = start_apart outs ins graph candidates c.requires.ready.graph at begun c.candidates_at-candidates.ensures.once in
-    let has : (x : ℕ) → is_explicit (joined s.pattern.now s.tree.now graph) (nth_vertex s.order c.args.k) x ≡ true → leads_to graph candidates x ≡ true → In xs x =
-    λ x explicit leads. start_has outs ins graph candidates at begun x (layer_has s.pattern.now s.tree.now d graph c.requires.ready.exact (nth_vertex s.order c.args.k) candidates.layer.now c.candidates_at-candidates.ensures.rows x explicit) leads in
+    let has : HasMembers s.pattern.now s.tree.now d graph s.order c.requires.ready c.args.k few c.args.partial.now c.requires.given xs =
+    λ m is goes.
+    start_has outs ins graph candidates at begun (slice_index m (nth_vertex s.order c.args.k))
+    (layer_has s.pattern.now s.tree.now d graph c.requires.ready.exact (nth_vertex s.order c.args.k) candidates.layer.now c.candidates_at-candidates.ensures.rows (slice_index m (nth_vertex s.order c.args.k)) (member_explicit s.pattern.now s.tree.now d graph s.order c.requires.ready c.args.k few c.args.partial.now c.requires.given m is))
+    (member_in_row s.pattern.now s.tree.now d graph s.order c.requires.ready c.args.k few c.args.partial.now c.requires.given c.requires.some r.vertex r.direction r.label.now c.candidates_at-candidates.ensures.row m is goes)
+    (c.candidates_at-candidates.ensures.way.leads m is goes) in
     record {
       place = c.first-at.ensures.place;
       partial = refl;
       stand = start_stands outs ins graph candidates at begun;
-      found = turns_start s.pattern.now s.tree.now s.dcg.now graph s.order c.requires.ready c.args.k (omega (arith, c.requires.few, c.if-k-len.false, c.len.ensures)) c.args.partial.now c.requires.given c.vertex-w.result c.vertex-w.ensures c.args.partial.now refl s.aim c.requires.some r.vertex r.direction r.label.now c.candidates_at-candidates.ensures.row xs apart has (g.F.Found.list c.args.found.now);
+      found = turns_start s.pattern.now s.tree.now s.dcg.now graph s.order c.requires.ready c.args.k few c.args.partial.now c.requires.given c.vertex-w.result c.vertex-w.ensures c.args.partial.now refl s.aim xs apart has (g.F.Found.list c.args.found.now);
       steps = λ live start.
-          (let paid = start_paid s.pattern.now s.tree.now s.dcg.now graph s.order c.requires.ready start live c.args.k c.requires.some (omega (arith, c.requires.few, c.if-k-len.false, c.len.ensures)) c.args.partial.now c.requires.given c.vertex-w.result c.vertex-w.ensures r.vertex r.direction r.label.now c.candidates_at-candidates.ensures.row n most xs apart has in
+          (let paid = start_paid s.pattern.now s.tree.now s.dcg.now graph s.order c.requires.ready start live c.args.k c.requires.some few c.args.partial.now c.requires.given c.vertex-w.result c.vertex-w.ensures r.vertex c.candidates_at-candidates.ensures.row.anchor n most xs apart has in
           omega (arith, paid));
-      look = (let started = look_start s.pattern.now s.tree.now s.dcg.now graph s.order c.requires.ready s.aim c.args.k c.requires.some (omega (arith, c.requires.few, c.if-k-len.false, c.len.ensures)) c.args.partial.now r.vertex r.direction r.label.now c.candidates_at-candidates.ensures.row n most xs apart c.vertex-w.result c.vertex-w.ensures in omega (arith, started));
+      look = (let started = look_start s.pattern.now s.tree.now s.dcg.now graph s.order c.requires.ready s.aim c.args.k c.requires.some few c.args.partial.now r.vertex r.direction r.label.now c.candidates_at-candidates.ensures.row n most xs apart c.vertex-w.result c.vertex-w.ensures in omega (arith, started));
     }
 
 pub next-requires-clause-stands : goal.next-requires-clause-stands
-next-requires-clause-stands g t c =
-    let s = c.args.search.now in
-    let candidates = c.candidates_at-candidates.result in
-    let r = candidates.row in
-    anchor_stands s.pattern.now s.tree.now s.dcg.now (g.G.HoldGraph.graph s.graph.now) s.order c.requires.ready c.args.k (omega (arith, c.requires.few, c.if-k-len.false, c.len.ensures)) c.args.partial.now c.requires.given c.requires.some r.vertex r.direction r.label.now c.candidates_at-candidates.ensures.row
+next-requires-clause-stands g t c = c.candidates_at-candidates.ensures.way.stands
+
+pub next-requires-clause-walked : goal.next-requires-clause-walked
+next-requires-clause-walked g t c = c.candidates_at-candidates.ensures.way.number
 
 pub may_take-requires-clause-open : goal.may_take-requires-clause-open
 may_take-requires-clause-open g t c =

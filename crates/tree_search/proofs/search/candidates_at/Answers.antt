@@ -1,7 +1,36 @@
 use Rattle.std.proofs.Common.{arith}
+use Rattle.tree_search.specs.Ways.{IsWay}
+use Rattle.tree_search.proofs.WayLemmas.{walked_way, walked_short}
 use Rattle.tree_search.proofs.TieLemmas.{children_count}
-use Rattle.tree_search.proofs.GivenLemmas.{vertex_inside}
+use Rattle.tree_search.specs.Given.{nth_vertex}
+use Rattle.tree_search.proofs.GivenLemmas.{vertex_inside, anchor_stands, member_in_row}
 use Rattle.tree_search.proofs.search.candidates_at.Goals as goal
+
+pub shorter_row-shorter-requires-clause-stands : goal.shorter_row-shorter-requires-clause-stands
+shorter_row-shorter-requires-clause-stands g c =
+    let s = c.args.search.now in
+    let r = c.row_to-row.result in
+    anchor_stands s.pattern.now s.tree.now s.dcg.now (g.G.HoldGraph.graph s.graph.now) s.order c.requires.ready c.args.k c.requires.few c.args.partial.now c.requires.given c.requires.some r.vertex r.direction r.label.now c.row_to-row.ensures.row
+
+pub returns-clause-way : goal.returns-clause-way
+returns-clause-way g c =
+    let s = c.args.search.now in
+    let q = s.pattern.now in
+    let graph = g.G.HoldGraph.graph s.graph.now in
+    let r = c.row_to-row.result in
+    let p = c.args.partial.now in
+    let w = nth_vertex s.order c.args.k in
+    let own : IsWay (g.G.HoldGraph.label_text s.graph.now) q graph p w r = record {
+      stands = anchor_stands q s.tree.now s.dcg.now graph s.order c.requires.ready c.args.k c.requires.few p c.requires.given c.requires.some r.vertex r.direction r.label.now c.row_to-row.ensures.row;
+      number = c.row_to-row.ensures.number;
+      leads = member_in_row q s.tree.now s.dcg.now graph s.order c.requires.ready c.args.k c.requires.few p c.requires.given c.requires.some r.vertex r.direction r.label.now c.row_to-row.ensures.row;
+    } in
+    walked_way (g.G.HoldGraph.label_text s.graph.now) q graph p w r own c.shorter_row-shorter.result c.shorter_row-shorter.ensures
+
+pub returns-clause-short : goal.returns-clause-short
+returns-clause-short g c =
+    let s = c.args.search.now in
+    walked_short (g.G.HoldGraph.label_text s.graph.now) s.pattern.now (g.G.HoldGraph.graph s.graph.now) c.args.partial.now (nth_vertex s.order c.args.k) c.row_to-row.result c.shorter_row-shorter.result c.shorter_row-shorter.ensures
 
 pub row_vertices-requires-clause-vertex : goal.row_vertices-requires-clause-vertex
 row_vertices-requires-clause-vertex g c =
