@@ -9,11 +9,14 @@
 //! - `walk_rows`: the row of a vertex, as it is walked, and the branches of a tree.
 //! - `state_rows`: the states of pairs over a graph.
 //! - `search_rows`: all embeddings over graphs that change line by line, and those that send an edge to a triple.
+//! - `class_rows`: what a triple brings and takes, by searches at it.
 //! - `registry_rows`: many patterns over one graph. `map_rows`: maps and deltas, as they are found and sorted.
 #![tactic(auto)]
 
 #[cfg(test)]
 mod card_rows;
+#[cfg(test)]
+mod class_rows;
 #[cfg(test)]
 mod join_rows;
 #[cfg(test)]
