@@ -1,11 +1,10 @@
 //! Cards, worked out by hand from their definition.
-use crate::made::{first, graph_of, patterns_of};
-use crate::shapes::LABELLED_CHAIN;
 use flux_model::{Steps, Tally};
 use label_cards::cards;
-use std::alloc::{AllocError, Global};
-use std::process::Abort;
+use std::alloc::Global;
 use std::test::Fail;
+use worked_parts::shapes::LABELLED_CHAIN;
+use worked_parts::{Unmade, first, graph_of, patterns_of};
 
 /// The cards of a pattern over a graph, and how many reads count them at most.
 #[derive(Clone, Copy)]
@@ -63,11 +62,11 @@ const ROWS: [Row; 5] = [
 ];
 
 /// Whether the cards of a row are as they should be.
-fn is_right(rt: &impl Abort, alloc: Global, row: &Row) -> Result<bool, AllocError> {
-    let graph = graph_of(rt, alloc, row.graph)?;
-    let patterns = patterns_of(rt, alloc, row.pattern)?;
+fn is_right(alloc: Global, row: &Row) -> Result<bool, Unmade> {
+    let graph = graph_of(alloc, row.graph)?;
+    let patterns = patterns_of(alloc, row.pattern)?;
     let mut steps = Steps::new(Tally::new());
-    let counted = cards(alloc, &graph, first(rt, &patterns), &mut steps)?;
+    let counted = cards(alloc, &graph, first(&patterns)?, &mut steps)?;
     let reads = steps.ledger().read();
     Ok(
         counted.edges() == row.edges
@@ -77,9 +76,9 @@ fn is_right(rt: &impl Abort, alloc: Global, row: &Row) -> Result<bool, AllocErro
 }
 
 /// How many rows, from the first on, are as they should be.
-fn count_right(rt: &impl Abort, alloc: Global, rows: &[Row]) -> Result<usize, AllocError> {
+fn count_right(alloc: Global, rows: &[Row]) -> Result<usize, Unmade> {
     for i in 0..rows.len() {
-        if !is_right(rt, alloc, &rows[i])? {
+        if !is_right(alloc, &rows[i])? {
             return Ok(i);
         }
     }
@@ -88,6 +87,6 @@ fn count_right(rt: &impl Abort, alloc: Global, rows: &[Row]) -> Result<usize, Al
 
 #[test]
 fn cards_of_patterns(rt: HostRuntime) -> Result<(), Fail> {
-    assert_eq!(rt; count_right(&rt, rt.alloc(), &ROWS)?, ROWS.len());
+    assert_eq!(rt; count_right(rt.alloc(), &ROWS)?, ROWS.len());
     Ok(())
 }

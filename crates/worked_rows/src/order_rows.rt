@@ -1,10 +1,10 @@
 //! Orders of a search, worked out by hand from their definition.
-use crate::made::{first, patterns_of, tree_of};
-use crate::shapes::{CHAIN, DOT};
 use match_order::{SearchOrder, order};
-use std::alloc::{AllocError, Global};
+use std::alloc::Global;
 use std::process::Abort;
 use std::test::Fail;
+use worked_parts::shapes::{CHAIN, DOT};
+use worked_parts::{Unmade, first, patterns_of, tree_of};
 
 /// The order of the vertices of a pattern.
 #[derive(Clone, Copy)]
@@ -73,9 +73,9 @@ const ROWS: [Row; 4] = [
 ];
 
 /// Whether the order of a row is as it should be.
-fn is_right(rt: &impl Abort, alloc: Global, row: &Row) -> Result<bool, AllocError> {
-    let patterns = patterns_of(rt, alloc, row.pattern)?;
-    let tree = tree_of(rt, alloc, first(rt, &patterns), row.edges, row.vertices)?;
+fn is_right(rt: &impl Abort, alloc: Global, row: &Row) -> Result<bool, Unmade> {
+    let patterns = patterns_of(alloc, row.pattern)?;
+    let tree = tree_of(alloc, first(&patterns)?, row.edges, row.vertices)?;
     assert!(rt; row.start < tree.vertex_count());
     assert!(rt; row.live.len() == tree.vertex_count());
     let order = order(&tree, row.start, row.live);
@@ -113,7 +113,7 @@ fn has_anchors(order: &SearchOrder, anchors: &[usize]) -> bool {
 }
 
 /// How many rows, from the first on, are as they should be.
-fn count_right(rt: &impl Abort, alloc: Global, rows: &[Row]) -> Result<usize, AllocError> {
+fn count_right(rt: &impl Abort, alloc: Global, rows: &[Row]) -> Result<usize, Unmade> {
     for i in 0..rows.len() {
         if !is_right(rt, alloc, &rows[i])? {
             return Ok(i);

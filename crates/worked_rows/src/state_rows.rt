@@ -2,17 +2,16 @@
 ghost use Rattle.std.specs.Prelude.{◌≡◌, length, false};
 ghost use Rattle.flux_model.specs.Tree.{BelongsTo};
 
-use crate::made::{first, graph_of, patterns_of, tree_of};
-use crate::shapes::{CHAIN, LABELLED_CHAIN};
 use dcg_store::Dcg;
 use dcg_transition::build;
 use flux_model::State::{Explicit, Implicit, Null};
-use flux_model::{Pattern, Silent, State, Steps, Tally};
+use flux_model::{Pattern, State, Steps, Tally};
 use label_graph::LabelGraph;
 use query_tree::QueryTree;
 use std::alloc::{AllocError, Global};
-use std::process::Abort;
 use std::test::Fail;
+use worked_parts::shapes::{CHAIN, LABELLED_CHAIN};
+use worked_parts::{Unmade, first, graph_of, has_live_counts, has_states, patterns_of, tree_of};
 
 /// The rows of the states of a chain over a graph.
 #[derive(Clone, Copy)]
@@ -89,12 +88,12 @@ const ROWS: [Row; 4] = [
 ];
 
 /// Whether the rows of states of a row of the table are as they should be.
-fn is_right(rt: &impl Abort, alloc: Global, row: &Row) -> Result<bool, AllocError> {
-    let graph = graph_of(rt, alloc, row.graph)?;
-    let patterns = patterns_of(rt, alloc, row.pattern)?;
-    let pattern = first(rt, &patterns);
-    let tree = tree_of(rt, alloc, pattern, row.edges, &[1, 1, 1])?;
-    builds(alloc, pattern, &tree, &graph, row)
+fn is_right(alloc: Global, row: &Row) -> Result<bool, Unmade> {
+    let graph = graph_of(alloc, row.graph)?;
+    let patterns = patterns_of(alloc, row.pattern)?;
+    let pattern = first(&patterns)?;
+    let tree = tree_of(alloc, pattern, row.edges, &[1, 1, 1])?;
+    Ok(builds(alloc, pattern, &tree, &graph, row)?)
 }
 
 /// Whether the rows of states are built in few steps, and are those of the row.
@@ -122,7 +121,7 @@ fn are_rows(tree: &QueryTree, dcg: &Dcg, row: &Row) -> bool
         && tree.vertex_count() == row.live.len()
         && has_live_counts(dcg, row.live)
         && count_rows(tree, dcg) as u64 == row.stored
-        && has_states(tree, dcg, row.states)
+        && has_states(dcg, tree.vertex_count(), row.states)
 }
 
 /// How many vertices have a row, over all pattern vertices.
@@ -137,38 +136,10 @@ fn count_rows(tree: &QueryTree, dcg: &Dcg) -> usize
     count
 }
 
-/// Whether so many pairs of each pattern vertex are explicit.
-fn has_live_counts(dcg: &Dcg, live: &[u64]) -> bool
-    requires whole { dcg.now.is_broken ≡ false }
-    requires vertices { length dcg.now.children ≡ length live.now }
-{
-    for u in 0..live.len() {
-        if dcg.live_count(u) != live[u] {
-            return false;
-        }
-    }
-    true
-}
-
-/// Whether the pairs have these states.
-fn has_states(tree: &QueryTree, dcg: &Dcg, states: &[(usize, u32, State)]) -> bool
-    requires whole { dcg.now.is_broken ≡ false }
-    requires vertices { length dcg.now.children ≡ length tree.now.links }
-{
-    let mut steps = Steps::new(Silent);
-    for i in 0..states.len() {
-        let (u, v, state) = states[i];
-        if u >= tree.vertex_count() || dcg.pair_state(u, v, &mut steps) != state {
-            return false;
-        }
-    }
-    true
-}
-
 /// How many rows, from the first on, are as they should be.
-fn count_right(rt: &impl Abort, alloc: Global, rows: &[Row]) -> Result<usize, AllocError> {
+fn count_right(alloc: Global, rows: &[Row]) -> Result<usize, Unmade> {
     for i in 0..rows.len() {
-        if !is_right(rt, alloc, &rows[i])? {
+        if !is_right(alloc, &rows[i])? {
             return Ok(i);
         }
     }
@@ -177,6 +148,6 @@ fn count_right(rt: &impl Abort, alloc: Global, rows: &[Row]) -> Result<usize, Al
 
 #[test]
 fn states_of_chains(rt: HostRuntime) -> Result<(), Fail> {
-    assert_eq!(rt; count_right(&rt, rt.alloc(), &ROWS)?, ROWS.len());
+    assert_eq!(rt; count_right(rt.alloc(), &ROWS)?, ROWS.len());
     Ok(())
 }

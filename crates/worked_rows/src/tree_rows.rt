@@ -1,13 +1,12 @@
 //! Trees, worked out by hand from the definition of their growth.
 ghost use Rattle.std.specs.Prelude.{◌<◌, length};
 
-use crate::made::{first, patterns_of, tree_of};
-use crate::shapes::{BOTH, CHAIN, DOT, HOOK, TRIANGLE};
 use query_tree::numbers::least_by;
 use query_tree::{QueryTree, TreeLink};
-use std::alloc::{AllocError, Global};
-use std::process::Abort;
+use std::alloc::Global;
 use std::test::Fail;
+use worked_parts::shapes::{BOTH, CHAIN, DOT, HOOK, TRIANGLE};
+use worked_parts::{Unmade, first, patterns_of, tree_of};
 
 /// The parent of a vertex, the edge that it hangs by, and its place among the parent's children.
 type Hanging = (usize, usize, usize);
@@ -90,9 +89,9 @@ const ROWS: [Row; 6] = [
 ];
 
 /// Whether the tree of a row is as it should be.
-fn is_right(rt: &impl Abort, alloc: Global, row: &Row) -> Result<bool, AllocError> {
-    let patterns = patterns_of(rt, alloc, row.pattern)?;
-    let tree = tree_of(rt, alloc, first(rt, &patterns), row.edges, row.vertices)?;
+fn is_right(alloc: Global, row: &Row) -> Result<bool, Unmade> {
+    let patterns = patterns_of(alloc, row.pattern)?;
+    let tree = tree_of(alloc, first(&patterns)?, row.edges, row.vertices)?;
     Ok(
         tree.root() == row.root
             && tree.non_tree() == row.non_tree
@@ -142,9 +141,9 @@ fn has_children(tree: &QueryTree, children: &[&[usize]]) -> bool {
 }
 
 /// How many rows, from the first on, are as they should be.
-fn count_right(rt: &impl Abort, alloc: Global, rows: &[Row]) -> Result<usize, AllocError> {
+fn count_right(alloc: Global, rows: &[Row]) -> Result<usize, Unmade> {
     for i in 0..rows.len() {
-        if !is_right(rt, alloc, &rows[i])? {
+        if !is_right(alloc, &rows[i])? {
             return Ok(i);
         }
     }
@@ -153,7 +152,7 @@ fn count_right(rt: &impl Abort, alloc: Global, rows: &[Row]) -> Result<usize, Al
 
 #[test]
 fn trees_of_patterns(rt: HostRuntime) -> Result<(), Fail> {
-    assert_eq!(rt; count_right(&rt, rt.alloc(), &ROWS)?, ROWS.len());
+    assert_eq!(rt; count_right(rt.alloc(), &ROWS)?, ROWS.len());
     Ok(())
 }
 
@@ -170,8 +169,8 @@ const HANGING: [(usize, usize, bool); 6] = [
 #[test]
 fn a_vertex_hangs_from_its_parent_alone(rt: HostRuntime) -> Result<(), Fail> {
     let alloc = rt.alloc();
-    let patterns = patterns_of(&rt, alloc, CHAIN)?;
-    let tree = tree_of(&rt, alloc, first(&rt, &patterns), &[1, 0], &[1, 1, 1])?;
+    let patterns = patterns_of(alloc, CHAIN)?;
+    let tree = tree_of(alloc, first(&patterns)?, &[1, 0], &[1, 1, 1])?;
     for (parent, u, hangs) in HANGING {
         assert!(rt; tree.is_child(parent, u) == hangs, "{parent} and {u}");
     }

@@ -2,8 +2,6 @@
 ghost use Rattle.std.specs.Prelude.{◌≢◌, ◌<◌, length};
 ghost use Rattle.flux_model.specs.Tree.{BelongsTo};
 
-use crate::made::{first, graph_of, patterns_of, tree_of};
-use crate::shapes::CHAIN;
 use flux_model::{Pattern, Steps, Tally, Text, TreeLink};
 use graph_rows::{Branch, Direction, GraphRow, WholeRow};
 use graph_traits::{HoldGraph, ReadGraph};
@@ -11,6 +9,8 @@ use label_graph::LabelGraph;
 use query_tree::QueryTree;
 use std::process::Abort;
 use std::test::Fail;
+use worked_parts::shapes::CHAIN;
+use worked_parts::{first, graph_of, patterns_of, tree_of};
 
 /// The one end that the row of vertex 1 has for the label `r`, and how many steps the whole row takes.
 fn only_end(rt: &impl Abort, graph: &LabelGraph, label: &Text, direction: Direction) -> (u32, u64) {
@@ -47,7 +47,7 @@ fn only_turn(rt: &impl Abort, graph: &LabelGraph) -> (u32, u64) {
 #[test]
 fn a_row_is_walked_for_one_label(rt: HostRuntime) -> Result<(), Fail> {
     let alloc = rt.alloc();
-    let graph = graph_of(&rt, alloc, "v 1\nv 2\nv 3\ne 1 2 r\ne 3 1 r\ne 1 3 s")?;
+    let graph = graph_of(alloc, "v 1\nv 2\nv 3\ne 1 2 r\ne 3 1 r\ne 1 3 s")?;
     let label = Text::from_bytes(alloc, b"r")?;
     assert!(rt; only_end(&rt, &graph, &label, Direction::Out) == (2, 3));
     assert!(rt; only_end(&rt, &graph, &label, Direction::In) == (3, 2));
@@ -65,11 +65,10 @@ const DIRECTIONS: [(usize, usize, Direction); 3] = [
 #[test]
 fn an_edge_leads_to_its_ends(rt: HostRuntime) -> Result<(), Fail> {
     let patterns = patterns_of(
-        &rt,
         rt.alloc(),
         "p round hom\nv 0\nv 1\nv 2\ne 0 1 r\ne 2 2 r\ne 1 2 r",
     )?;
-    let pattern = first(&rt, &patterns);
+    let pattern = first(&patterns)?;
     for (edge, u, direction) in DIRECTIONS {
         assert!(rt; edge < pattern.edge_count());
         assert!(rt;
@@ -110,10 +109,10 @@ fn branches_as(
 #[test]
 fn a_branch_leads_down_from_the_root(rt: HostRuntime) -> Result<(), Fail> {
     let alloc = rt.alloc();
-    let graph = graph_of(&rt, alloc, "v 1\nv 2\ne 1 2 r")?;
-    let patterns = patterns_of(&rt, alloc, CHAIN)?;
-    let pattern = first(&rt, &patterns);
-    let tree = tree_of(&rt, alloc, pattern, &[1, 0], &[1, 1, 1])?;
+    let graph = graph_of(alloc, "v 1\nv 2\ne 1 2 r")?;
+    let patterns = patterns_of(alloc, CHAIN)?;
+    let pattern = first(&patterns)?;
+    let tree = tree_of(alloc, pattern, &[1, 0], &[1, 1, 1])?;
     for branching in BRANCHES {
         assert!(rt; branching.0 < tree.vertex_count());
         assert!(rt; branching.0 != tree.root());

@@ -2,8 +2,7 @@
 ghost use Rattle.std.specs.Prelude.{◌<◌, length};
 ghost use Rattle.flux_model.specs.Tree.{BelongsTo};
 
-use crate::made::{are_maps, first, graph_of, patterns_of, tree_of};
-use crate::shapes::{BOTH, CHAIN, HOOK, RING, TRIANGLE};
+use crate::maps::are_maps;
 use dcg_transition::build;
 use flux_model::{Labels, Maps, Pattern, Steps, Tally, Text, Triple};
 use label_graph::{KeepGraph, LabelGraph};
@@ -12,6 +11,8 @@ use std::alloc::{AllocError, Global};
 use std::process::Abort;
 use std::test::Fail;
 use tree_search::{all, at_edge};
+use worked_parts::shapes::{BOTH, CHAIN, HOOK, RING, TRIANGLE};
+use worked_parts::{Unmade, first, graph_of, patterns_of, tree_of};
 
 /// A triple comes or goes.
 #[derive(Clone, Copy)]
@@ -310,8 +311,8 @@ const AT_HUB: Class = Class {
 
 /// A triple of the label `r` to vertex 1 from each of the vertices 2 to 1,001, the first two of which have the label `x`, and
 /// one of the label `s` from vertex 1 to itself.
-fn hub(rt: &impl Abort, alloc: Global) -> Result<LabelGraph, AllocError> {
-    let mut graph = graph_of(rt, alloc, "v 1\ne 1 1 s")?;
+fn hub(rt: &impl Abort, alloc: Global) -> Result<LabelGraph, Unmade> {
+    let mut graph = graph_of(alloc, "v 1\ne 1 1 s")?;
     for id in 2..1002 {
         let mut labels = Labels::new(alloc);
         if id < 4 {
@@ -488,11 +489,11 @@ fn is_insertion(change: Change) -> bool {
 }
 
 /// Compares what is found after each line of a row.
-fn check_lines(rt: &impl Abort, alloc: Global, row: &Row) -> Result<(), AllocError> {
-    let mut graph = graph_of(rt, alloc, row.graph)?;
-    let patterns = patterns_of(rt, alloc, row.pattern)?;
-    let pattern = first(rt, &patterns);
-    let tree = tree_of(rt, alloc, pattern, row.edges, row.vertices)?;
+fn check_lines(rt: &impl Abort, alloc: Global, row: &Row) -> Result<(), Unmade> {
+    let mut graph = graph_of(alloc, row.graph)?;
+    let patterns = patterns_of(alloc, row.pattern)?;
+    let pattern = first(&patterns)?;
+    let tree = tree_of(alloc, pattern, row.edges, row.vertices)?;
     let found = found_in(alloc, pattern, &tree, &graph)?;
     assert!(rt; are_maps(&found, &[]));
     for i in 0..row.lines.len() {
@@ -538,11 +539,12 @@ fn check_class(
     alloc: Global,
     graph: &LabelGraph,
     row: &Class,
-) -> Result<(), AllocError> {
-    let patterns = patterns_of(rt, alloc, row.pattern)?;
-    let pattern = first(rt, &patterns);
-    let tree = tree_of(rt, alloc, pattern, row.edges, row.vertices)?;
-    assert_class(rt, alloc, pattern, &tree, graph, row)
+) -> Result<(), Unmade> {
+    let patterns = patterns_of(alloc, row.pattern)?;
+    let pattern = first(&patterns)?;
+    let tree = tree_of(alloc, pattern, row.edges, row.vertices)?;
+    assert_class(rt, alloc, pattern, &tree, graph, row)?;
+    Ok(())
 }
 
 #[test]
@@ -557,7 +559,7 @@ fn embeddings_before_and_after_a_triple(rt: HostRuntime) -> Result<(), Fail> {
 fn embeddings_that_send_an_edge_to_a_triple(rt: HostRuntime) -> Result<(), Fail> {
     let alloc = rt.alloc();
     for row in &CLASSES {
-        check_class(&rt, alloc, &graph_of(&rt, alloc, row.graph)?, row)?;
+        check_class(&rt, alloc, &graph_of(alloc, row.graph)?, row)?;
     }
     Ok(())
 }

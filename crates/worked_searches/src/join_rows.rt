@@ -1,15 +1,15 @@
 //! What is asked of one candidate of a search, worked out by hand.
 ghost use Rattle.flux_model.specs.Tree.{BelongsTo};
 
-use crate::made::{first, graph_of, patterns_of, tree_of};
-use crate::shapes::{HOOK, TRIANGLE};
 use flux_model::{Mode, Partial, Pattern, Steps, Tally, Text, Triple};
 use label_graph::LabelGraph;
 use nontree_test::{earlier, free, joins, label_numbers};
 use query_tree::QueryTree;
-use std::alloc::{AllocError, Global};
+use std::alloc::Global;
 use std::process::Abort;
 use std::test::Fail;
+use worked_parts::shapes::{HOOK, TRIANGLE};
+use worked_parts::{Unmade, first, graph_of, patterns_of, tree_of};
 
 /// A vertex of the pattern with an id.
 type Given = (usize, u32);
@@ -62,11 +62,11 @@ const ROWS: [Row; 2] = [
 ];
 
 /// Whether what is told of the candidates of a row is as it should be.
-fn is_right(rt: &impl Abort, alloc: Global, row: &Row) -> Result<bool, AllocError> {
-    let graph = graph_of(rt, alloc, row.graph)?;
-    let patterns = patterns_of(rt, alloc, row.pattern)?;
-    let pattern = first(rt, &patterns);
-    let tree = tree_of(rt, alloc, pattern, row.edges, row.vertices)?;
+fn is_right(rt: &impl Abort, alloc: Global, row: &Row) -> Result<bool, Unmade> {
+    let graph = graph_of(alloc, row.graph)?;
+    let patterns = patterns_of(alloc, row.pattern)?;
+    let pattern = first(&patterns)?;
+    let tree = tree_of(alloc, pattern, row.edges, row.vertices)?;
     for i in 0..row.cases.len() {
         if !joins_as(rt, alloc, pattern, &tree, &graph, &row.cases[i])? {
             return Ok(false);
@@ -83,7 +83,7 @@ fn joins_as(
     tree: &QueryTree,
     graph: &LabelGraph,
     case: &Case,
-) -> Result<bool, AllocError>
+) -> Result<bool, Unmade>
     requires { BelongsTo pattern.now tree.now }
 {
     let ((u, id), (w, x), answer, reads) = *case;
@@ -99,7 +99,7 @@ fn joins_as(
 }
 
 /// How many rows, from the first on, are as they should be.
-fn count_right(rt: &impl Abort, alloc: Global, rows: &[Row]) -> Result<usize, AllocError> {
+fn count_right(rt: &impl Abort, alloc: Global, rows: &[Row]) -> Result<usize, Unmade> {
     for i in 0..rows.len() {
         if !is_right(rt, alloc, &rows[i])? {
             return Ok(i);
@@ -156,10 +156,10 @@ const SENT: [Sent; 11] = [
 ];
 
 /// Compares whether an edge is sent.
-fn check_sent(rt: &impl Abort, alloc: Global, row: &Sent) -> Result<(), AllocError> {
+fn check_sent(rt: &impl Abort, alloc: Global, row: &Sent) -> Result<(), Unmade> {
     let (text, number, (u, id), (w, x), (src, dst), is_sent) = *row;
-    let patterns = patterns_of(rt, alloc, text)?;
-    let pattern = first(rt, &patterns);
+    let patterns = patterns_of(alloc, text)?;
+    let pattern = first(&patterns)?;
     assert!(rt; number <= pattern.edge_count());
     assert!(rt; u < pattern.vertex_count());
     let mut partial = Partial::new(pattern.vertex_count());

@@ -3,8 +3,7 @@
 //! search.
 ghost use Rattle.flux_model.specs.Tree.{BelongsTo};
 
-use crate::made::{are_maps, first, graph_of, patterns_of, tree_of};
-use crate::shapes::{CHAIN, HOOK, RING, TRIANGLE};
+use crate::maps::are_maps;
 use dcg_transition::build;
 use flux_model::{Labels, Limits, Line, Maps, Pattern, Said, Steps, Tally, Text, Triple};
 use label_graph::{KeepGraph, LabelGraph};
@@ -15,6 +14,8 @@ use std::alloc::{AllocError, Global};
 use std::process::Abort;
 use std::test::Fail;
 use tree_search::at_edge;
+use worked_parts::shapes::{CHAIN, HOOK, RING, TRIANGLE};
+use worked_parts::{Unmade, first, graph_of, patterns_of, tree_of};
 
 /// A line of updates by which a triple comes or goes.
 #[derive(Clone, Copy)]
@@ -274,8 +275,8 @@ fn fan_of(
     rt: &impl Abort,
     alloc: Global,
     between: (u32, &str, u32),
-) -> Result<LabelGraph, AllocError> {
-    let mut graph = graph_of(rt, alloc, "v 1\nv 2\ne 1 2 r")?;
+) -> Result<LabelGraph, Unmade> {
+    let mut graph = graph_of(alloc, "v 1\nv 2\ne 1 2 r")?;
     for id in 3..1003 {
         let added = graph.add_vertex(id, &Labels::new(alloc))?;
         assert!(rt; added.is_ok());
@@ -304,7 +305,7 @@ fn is_near(
     pattern: &Pattern,
     tree: &QueryTree,
     fan: &Fan,
-) -> Result<bool, AllocError>
+) -> Result<bool, Unmade>
     requires { BelongsTo pattern.now tree.now }
 {
     let graph = fan_of(rt, alloc, fan.between)?;
@@ -320,15 +321,15 @@ fn is_near(
 }
 
 /// Whether a search over a fan is as it should be.
-fn is_fan_right(rt: &impl Abort, alloc: Global, fan: &Fan) -> Result<bool, AllocError> {
-    let patterns = patterns_of(rt, alloc, fan.pattern)?;
-    let pattern = first(rt, &patterns);
-    let tree = tree_of(rt, alloc, pattern, &[1, 1, 2], &[1, 1, 1])?;
+fn is_fan_right(rt: &impl Abort, alloc: Global, fan: &Fan) -> Result<bool, Unmade> {
+    let patterns = patterns_of(alloc, fan.pattern)?;
+    let pattern = first(&patterns)?;
+    let tree = tree_of(alloc, pattern, &[1, 1, 2], &[1, 1, 1])?;
     is_near(rt, alloc, pattern, &tree, fan)
 }
 
 /// How many fans, from the first on, are as they should be.
-fn count_right_fans(rt: &impl Abort, alloc: Global, fans: &[Fan]) -> Result<usize, AllocError> {
+fn count_right_fans(rt: &impl Abort, alloc: Global, fans: &[Fan]) -> Result<usize, Unmade> {
     for i in 0..fans.len() {
         if !is_fan_right(rt, alloc, &fans[i])? {
             return Ok(i);
@@ -357,10 +358,10 @@ fn are_listed(
     pattern: &Pattern,
     tree: &QueryTree,
     row: &Row,
-) -> Result<bool, AllocError>
+) -> Result<bool, Unmade>
     requires { BelongsTo pattern.now tree.now }
 {
-    let graph = graph_of(rt, alloc, row.with)?;
+    let graph = graph_of(alloc, row.with)?;
     let triple = triple_of(rt, alloc, row.triple)?;
     let mut maps = Maps::new(alloc);
     add_classes(alloc, pattern, tree, &graph, &triple, &mut maps)?;
@@ -374,10 +375,10 @@ fn are_the_difference(
     pattern: &Pattern,
     tree: &QueryTree,
     row: &Row,
-) -> Result<bool, AllocError>
+) -> Result<bool, Unmade>
     requires { BelongsTo pattern.now tree.now }
 {
-    let graph = graph_of(rt, alloc, row.with)?;
+    let graph = graph_of(alloc, row.with)?;
     let triple = triple_of(rt, alloc, row.triple)?;
     let mut maps = plain_all(alloc, pattern, &plain_of(rt, alloc, row.without)?)?;
     add_classes(alloc, pattern, tree, &graph, &triple, &mut maps)?;
@@ -386,16 +387,16 @@ fn are_the_difference(
 }
 
 /// Whether the classes of a row are as they should be.
-fn is_right(rt: &impl Abort, alloc: Global, row: &Row) -> Result<bool, AllocError> {
-    let patterns = patterns_of(rt, alloc, row.pattern)?;
-    let pattern = first(rt, &patterns);
-    let tree = tree_of(rt, alloc, pattern, row.edges, row.vertices)?;
+fn is_right(rt: &impl Abort, alloc: Global, row: &Row) -> Result<bool, Unmade> {
+    let patterns = patterns_of(alloc, row.pattern)?;
+    let pattern = first(&patterns)?;
+    let tree = tree_of(alloc, pattern, row.edges, row.vertices)?;
     Ok(are_listed(rt, alloc, pattern, &tree, row)?
         && are_the_difference(rt, alloc, pattern, &tree, row)?)
 }
 
 /// How many rows, from the first on, are as they should be.
-fn count_right(rt: &impl Abort, alloc: Global, rows: &[Row]) -> Result<usize, AllocError> {
+fn count_right(rt: &impl Abort, alloc: Global, rows: &[Row]) -> Result<usize, Unmade> {
     for i in 0..rows.len() {
         if !is_right(rt, alloc, &rows[i])? {
             return Ok(i);

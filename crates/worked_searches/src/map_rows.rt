@@ -1,5 +1,5 @@
 //! Maps and deltas, made, sorted and compared with lists by hand.
-use crate::made::are_maps;
+use crate::maps::are_maps;
 use flux_model::{Delta, Deltas, Map, Maps};
 use std::alloc::{AllocError, Global};
 use std::process::Abort;

@@ -1,13 +1,13 @@
 //! Registries, worked out by hand.
 ghost use Rattle.std.specs.Prelude.{◌≡◌, ◌<◌, length, false};
 
-use crate::made::{are_maps, graph_of, patterns_of};
-use crate::shapes::LABELLED_CHAIN;
+use crate::maps::are_maps;
 use flux_model::{Deltas, Steps, Tally};
 use pattern_registry::Registry;
-use std::alloc::{AllocError, Global};
-use std::process::Abort;
+use std::alloc::Global;
 use std::test::Fail;
+use worked_parts::shapes::{LABELLED_CHAIN, TRIANGLE};
+use worked_parts::{Unmade, graph_of, patterns_of};
 
 /// A registry of patterns over a graph.
 #[derive(Clone, Copy)]
@@ -21,8 +21,6 @@ struct Row {
 }
 
 const CIRCLE: &str = "v 1\nv 2\nv 3\ne 1 2 r\ne 2 3 r\ne 3 1 r";
-
-const TRIANGLE: &str = "p tri hom\nv 0\nv 1\nv 2\ne 0 1 r\ne 1 2 r\ne 2 0 r";
 
 const ROWS: [Row; 4] = [
     // A triangle is answered in three turns.
@@ -56,9 +54,9 @@ const ROWS: [Row; 4] = [
 ];
 
 /// Whether the registry of a row keeps and answers what it should.
-fn is_right(rt: &impl Abort, alloc: Global, row: &Row) -> Result<bool, AllocError> {
-    let graph = graph_of(rt, alloc, row.graph)?;
-    let patterns = patterns_of(rt, alloc, row.patterns)?;
+fn is_right(alloc: Global, row: &Row) -> Result<bool, Unmade> {
+    let graph = graph_of(alloc, row.graph)?;
+    let patterns = patterns_of(alloc, row.patterns)?;
     let mut steps = Steps::new(Tally::new());
     let registry = Registry::start(alloc, patterns, &graph, &mut steps)?;
     let mut answers = registry.answers(alloc, &graph, &mut steps)?;
@@ -107,9 +105,9 @@ fn are_answers(deltas: &Deltas, answers: &[(usize, &[&[u32]])]) -> bool {
 }
 
 /// How many rows, from the first on, are as they should be.
-fn count_right(rt: &impl Abort, alloc: Global, rows: &[Row]) -> Result<usize, AllocError> {
+fn count_right(alloc: Global, rows: &[Row]) -> Result<usize, Unmade> {
     for i in 0..rows.len() {
-        if !is_right(rt, alloc, &rows[i])? {
+        if !is_right(alloc, &rows[i])? {
             return Ok(i);
         }
     }
@@ -118,6 +116,6 @@ fn count_right(rt: &impl Abort, alloc: Global, rows: &[Row]) -> Result<usize, Al
 
 #[test]
 fn registries_of_patterns(rt: HostRuntime) -> Result<(), Fail> {
-    assert_eq!(rt; count_right(&rt, rt.alloc(), &ROWS)?, ROWS.len());
+    assert_eq!(rt; count_right(rt.alloc(), &ROWS)?, ROWS.len());
     Ok(())
 }

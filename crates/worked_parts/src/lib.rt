@@ -1,0 +1,15 @@
+//! What worked rows are made of: graphs, patterns and trees from short texts. The crates of rows share it.
+//!
+//! - `texts`: graphs, patterns, updates and trees of texts. `unmade`: why a text makes none.
+//! - `shapes`: the texts of patterns that several tables share.
+//! - `states`: whether the states of pairs are those of a table.
+#![tactic(auto)]
+
+pub mod shapes;
+mod states;
+mod texts;
+mod unmade;
+
+pub use states::{has_live_counts, has_states};
+pub use texts::{first, graph_of, patterns_of, tree_of, update_of};
+pub use unmade::Unmade;

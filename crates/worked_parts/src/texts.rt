@@ -1,0 +1,90 @@
+//! Graphs, patterns, updates and trees, made of short texts.
+ghost use Rattle.std.specs.Prelude.{◌≡◌, Ok, Some, IfOk, slice_get};
+ghost use Rattle.flux_model.specs.Lines.{held};
+ghost use Rattle.flux_model.specs.Limits.{standard};
+ghost use Rattle.flux_model.specs.Reading.{update_reading};
+ghost use Rattle.flux_model.specs.Tree.{BelongsTo, tree_for};
+ghost use Rattle.flux_model.specs.Verdict.{graph_file, pattern_file};
+ghost use Rattle.flux_model.specs.declared.said.Said.TheVariants.{Says};
+ghost use Rattle.flux_outside.specs.MemShelf.{bytes_of};
+ghost use Rattle.label_graph.specs.Meaning.{graph_in};
+
+use crate::unmade::Unmade;
+use file_reading::{read_patterns, read_store};
+use flux_model::{Cards, Limits, Line, Pattern, Patterns, Said, Update};
+use flux_outside::MemShelf;
+use label_graph::LabelGraph;
+use line_grammar::read_update_line;
+use query_tree::QueryTree;
+use std::alloc::{AllocError, Global};
+
+/// The name of the only file of a shelf.
+const NAME: &str = "text";
+
+/// A shelf with one file, which has this name and this text.
+fn shelf_of(alloc: Global, name: &str, text: &str) -> Result<MemShelf, AllocError>
+    ensures { IfOk result (λ shelf. bytes_of shelf.entries name.now ≡ Some text.now) }
+{
+    let mut shelf = MemShelf::new(alloc);
+    shelf.add(name, text.as_bytes())?;
+    Ok(shelf)
+}
+
+/// The graph that a graph file of this text is accepted as.
+pub fn graph_of(alloc: Global, text: &str) -> Result<LabelGraph, Unmade>
+    ensures { IfOk result (λ graph. graph_file standard (Some text.now) ≡ Ok (graph_in graph)) }
+{
+    let limits = Limits::standard();
+    let mut shelf = shelf_of(alloc, NAME, text)?;
+    let empty = LabelGraph::new(alloc, &limits);
+    let graph = read_store(alloc, &limits, &mut shelf, NAME, empty)?;
+    Ok(graph)
+}
+
+/// The patterns that a pattern file of this text is accepted as.
+pub fn patterns_of(alloc: Global, text: &str) -> Result<Patterns, Unmade>
+    ensures { IfOk result (λ patterns. pattern_file standard (Some text.now) ≡ Ok patterns) }
+{
+    let mut shelf = shelf_of(alloc, NAME, text)?;
+    let patterns = read_patterns(alloc, &Limits::standard(), &mut shelf, NAME)?;
+    Ok(patterns)
+}
+
+/// The first pattern.
+pub fn first(patterns: &Patterns) -> Result<&Pattern, Unmade>
+    ensures { IfOk result (λ pattern. slice_get patterns.now 0 ≡ Some pattern.now) }
+{
+    if patterns.count() == 0 {
+        return Err(Unmade::NoPattern);
+    }
+    Ok(patterns.get(0))
+}
+
+/// What a line of updates says.
+pub fn update_of(alloc: Global, line: &str) -> Result<Update, Unmade>
+    ensures { IfOk result (λ update. update_reading (held line.now) ≡ Says update) }
+{
+    match read_update_line(alloc, &Line::Held(line.as_bytes()))? {
+        Said::Says(update) => Ok(update),
+        Said::Refused(code) => Err(Unmade::Refused(code)),
+        Said::Nothing => Err(Unmade::Silent),
+    }
+}
+
+/// The tree of the pattern that these cards of its edges and of its vertices choose.
+pub fn tree_of(
+    alloc: Global,
+    pattern: &Pattern,
+    edges: &[u64],
+    vertices: &[u64],
+) -> Result<QueryTree, Unmade>
+    ensures tree { IfOk result (λ tree. tree ≡ tree_for pattern.now edges.now vertices.now) }
+    ensures belongs { IfOk result (λ tree. BelongsTo pattern.now tree) }
+{
+    if edges.len() != pattern.edge_count() || vertices.len() != pattern.vertex_count() {
+        return Err(Unmade::NoCard);
+    }
+    let cards = Cards::new(edges.to_vec(alloc)?, vertices.to_vec(alloc)?);
+    let tree = QueryTree::choose(alloc, pattern, &cards)?;
+    Ok(tree)
+}
