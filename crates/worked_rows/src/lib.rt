@@ -1,7 +1,7 @@
 //! Worked rows: what the crates of the index answer over small graphs, worked out by hand from the definitions.
 //!
 //! There are tests alone here. Each goes over a table, and each public call of those crates is met once. What searches has its rows
-//! in `worked_searches`.
+//! in `worked_searches`, and what moves the states with the graph in `worked_updates`.
 //!
 //! - `card_rows`: how often the edges and vertices of a pattern fit.
 //! - `tree_rows`: the tree that cards choose. `order_rows`: the order in which a search goes along it.
