@@ -67,11 +67,11 @@ module _ (outs ins : ℕ → Spot → List Triple) (g : Graph) (c : Candidates) 
   -- an id of the layer is left to which the anchor's triple leads and that of the row that is walked
   pub start_has : (at : Cursor) → IsStart outs ins g c at → (x : ℕ) → list_any (nat_eq x) c.layer.now ≡ true → leads_to g c x ≡ true → has_triple g (triple_of direction vertex label x) ≡ true → In (left outs ins g c at) x
   start_has (Row s) start x listed leads along =
-      in_filter (passes g c) (ends_of direction label (rows s)) x (ends_have g vertex direction label (rows s) start x along) (or_right (not (is_some c.shorter)) (leads_to g c x) leads)
+      in_filter (passes g c) (ends_of direction label (rows s)) x (ends_have g vertex direction label (rows s) start x along) (or_right (not (is_some c.shortest.row)) (leads_to g c x) leads)
   start_has (Layer i) start x listed leads along = subst (λ n. In (filter (leads_to g c) (drop n c.layer.now)) x) (sym start.first) (in_filter (leads_to g c) c.layer.now x (listed_in x c.layer.now listed) leads)
 
   -- what passes is an end of the anchor's row, or the anchor's triple leads to it
-  led : (o : Option GraphRow) → o ≡ c.shorter → (x : ℕ) → not (is_some o) || leads_to g c x ≡ true → has_triple g (triple_of (unwrap_or o c.row).direction (unwrap_or o c.row).vertex (unwrap_or o c.row).label.now x) ≡ true → leads_to g c x ≡ true
+  led : (o : Option GraphRow) → o ≡ c.shortest.row → (x : ℕ) → not (is_some o) || leads_to g c x ≡ true → has_triple g (triple_of (unwrap_or o c.row).direction (unwrap_or o c.row).vertex (unwrap_or o c.row).label.now x) ≡ true → leads_to g c x ≡ true
   led None is x may along = along
   led (Some r) is x may along = may
 
@@ -79,13 +79,13 @@ module _ (outs ins : ℕ → Spot → List Triple) (g : Graph) (c : Candidates) 
   pub start_stands : (at : Cursor) → IsStart outs ins g c at → (x : ℕ) → In (left outs ins g c at) x → leads_to g c x ≡ true
   start_stands (Row s) start x i =
       let r = filter_in (passes g c) (ends_of direction label (rows s)) x i in
-      led c.shorter refl x r.1 (end_stands g vertex direction label (rows s) start x r.0)
+      led c.shortest.row refl x r.1 (end_stands g vertex direction label (rows s) start x r.0)
   start_stands (Layer n) start x i = (filter_in (leads_to g c) (drop n c.layer.now) x i).1
 
   -- no more reads are left than the anchor's id has triples
   pub start_few : turns g (walked c) ≤ degree g c.row.vertex → (at : Cursor) → IsStart outs ins g c at → reads outs ins c at ≤ degree g c.row.vertex
   start_few short (Row s) start = omega (arith, length_permutation (rows s) (whole_row direction g vertex) start, short)
-  start_few short (Layer i) start = omega (arith, start.first, start.few, short)
+  start_few short (Layer i) start = omega (arith, start.first, start.few)
 
   -- ---- one end of the row that is walked after another
 

@@ -30,6 +30,10 @@ turns_out g r is = ap (λ d. length (whole_row d g r.vertex)) is ∙ length-filt
 pub turns_in : (g : Graph) (r : GraphRow) → r.direction ≡ Inward → turns g r ≡ count_by (λ (t : Triple). t.dst == r.vertex) g.triples
 turns_in g r is = ap (λ d. length (whole_row d g r.vertex)) is ∙ length-filter (λ (t : Triple). t.dst == r.vertex) g.triples
 
+-- no more than its vertex
+pub turns_few : (g : Graph) (r : GraphRow) → turns g r ≤ degree g r.vertex
+turns_few g r = row_length g r.vertex r.direction
+
 -- ---- where a row leads
 
 -- the triple in the row of the other end's id that leads to w's
@@ -65,5 +69,5 @@ module _ (texts : ℕ → Option (List ℕ)) (q : PatternGraph) (g : Graph) (p :
 
   -- and has no more triples than the anchor's id
   pub walked_short : (o : Option GraphRow) → IfSome o (IsShorterWay texts q g p w row) → turns g (unwrap_or o row) ≤ degree g row.vertex
-  walked_short None shorter = row_length g row.vertex row.direction
-  walked_short (Some r) shorter = omega (arith, shorter.few, row_length g row.vertex row.direction)
+  walked_short None shorter = turns_few g row
+  walked_short (Some r) shorter = omega (arith, shorter.few, turns_few g row)

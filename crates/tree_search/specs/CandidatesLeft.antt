@@ -1,20 +1,20 @@
 -- The candidates that are left from a place on, in a row or in a layer of the index.
 use Rattle.std.specs.Prelude.{◌≡◌, ℕ, ◌-◌, ◌≤◌, ◌||◌, not, Bool, List, length, drop, filter, is_some, IsPermutation}
 use Rattle.std.specs.Option.{unwrap_or}
+use Rattle.flux_model.specs.Costs.{degree}
 use Rattle.flux_model.specs.Graph.{Graph, has_triple}
 use Rattle.flux_model.specs.declared.graph.Triple.{Triple}
 use Rattle.graph_traits.specs.declared.spot.Spot.{Spot}
 use Rattle.graph_rows.specs.Directions.{triple_of, whole_row}
 use Rattle.graph_rows.specs.LabelRows.{row_from, ends_from, IsPlaceOf}
 use Rattle.graph_rows.specs.declared.graph_row.GraphRow.{GraphRow}
-use Rattle.tree_search.specs.Ways.{turns}
 use Rattle.tree_search.specs.declared.candidates.Candidates.{Candidates}
 use Rattle.tree_search.specs.declared.candidates.Cursor.{Cursor}
 use Rattle.tree_search.specs.declared.candidates.Cursor.TheVariants.{Row, Layer}
 
 -- the row that is walked
 abbrev pub walked : Candidates → GraphRow
-walked c = unwrap_or c.shorter c.row
+walked c = unwrap_or c.shortest.row c.row
 
 -- the triple of the anchor's row leads to x
 abbrev pub leads_to : Graph → Candidates → ℕ → Bool
@@ -22,7 +22,7 @@ leads_to g c x = has_triple g (triple_of c.row.direction c.row.vertex c.row.labe
 
 -- it leads to what the row that is walked leads to: that is the anchor's, or the triple is asked for
 abbrev pub passes : Graph → Candidates → ℕ → Bool
-passes g c x = not (is_some c.shorter) || leads_to g c x
+passes g c x = not (is_some c.shortest.row) || leads_to g c x
 
 -- those of the row that is walked from a place on
 abbrev pub walked_from : (ℕ → Spot → List Triple) → (ℕ → Spot → List Triple) → Graph → Candidates → Spot → List ℕ
@@ -47,10 +47,10 @@ abbrev pub IsCursor : (ℕ → Spot → Type 0) → (ℕ → Spot → Type 0) �
 IsCursor is_out is_in c (Row s) = IsPlaceOf is_out is_in (walked c) s
 IsCursor is_out is_in c (Layer i) = i ≤ length c.layer.now
 
--- the layer is no longer than the row that would be walked
+-- the layer is no longer than the anchor's id has triples
 pub record IsShort (g : Graph) (c : Candidates) (i : ℕ) : Type 0 where
   pub first : i ≡ 0
-  pub few : length c.layer.now ≤ turns g (walked c)
+  pub few : length c.layer.now ≤ degree g c.row.vertex
 
 -- all candidates are left
 abbrev pub IsStart : (ℕ → Spot → List Triple) → (ℕ → Spot → List Triple) → Graph → Candidates → Cursor → Type 0

@@ -1,10 +1,10 @@
 //! `Candidates`: the ids that a vertex may have beside the id of its anchor, from the shortest of some lists.
 ghost use Rattle.std.specs.Prelude.{◌≡◌, ◌+◌, ◌*◌, ◌<◌, ◌≤◌, [], ◌∷◌, length, IsTrue, IfSome, MatchOption};
+ghost use Rattle.flux_model.specs.Costs.{degree};
 ghost use Rattle.flux_model.specs.Graph.{has_vertex};
 ghost use Rattle.graph_traits.specs.Numbers.{IsNumberIn};
 ghost use Rattle.graph_rows.specs.LabelRows.{row_from, IsPlaceOf};
 ghost use Rattle.tree_search.specs.CandidatesLeft.{leads_to, passes, walked, walked_from, listed_from, left, reads, IsCursor, IsStart};
-ghost use Rattle.tree_search.specs.Ways.{turns};
 
 use flux_model::{Ledger, Steps};
 use graph_rows::{Direction, GraphRow};
@@ -19,10 +19,19 @@ use nontree_test::stands;
 pub struct Candidates<'a> {
     /// The row of the anchor's id.
     pub row: GraphRow<'a>,
-    /// A shorter row, of another neighbour's id.
-    pub shorter: Option<GraphRow<'a>>,
+    /// A shorter row of another neighbour's id, if there is one.
+    pub shortest: Shortest<'a>,
     /// The vertices of the graph that have a row in the index.
     pub layer: &'a [u32],
+}
+
+/// The shortest row of the id of a neighbour, where it is shorter than that of the anchor's id.
+#[derive(Drop)]
+pub struct Shortest<'a> {
+    /// The row, or `None` where none is shorter.
+    pub row: Option<GraphRow<'a>>,
+    /// How many triples it has, of any label; where there is none, the row of the anchor's id.
+    pub turns: u64,
 }
 
 /// A place among the candidates.
@@ -37,15 +46,15 @@ pub enum Cursor {
 impl<'a> Candidates<'a> {
     /// The first place, in the shortest list. It takes no step.
     pub fn first<G: HoldGraph>(&self, graph: &G) -> Cursor
-        requires { IsTrue (has_vertex (G.graph graph.now) (walked self.now).vertex) }
+        requires stands { IsTrue (has_vertex (G.graph graph.now) (walked self.now).vertex) }
+        requires few { self.now.shortest.turns ≤ degree (G.graph graph.now) self.now.row.vertex }
         ensures place { IsCursor (G.is_out_place graph.now) (G.is_in_place graph.now) self.now result }
         ensures start { IsStart (G.outs_from graph.now) (G.ins_from graph.now) (G.graph graph.now) self.now result }
     {
-        let row = self.walked();
-        if (self.layer.len() as u64) < turns(row, graph) {
+        if (self.layer.len() as u64) < self.shortest.turns {
             Cursor::Layer(0)
         } else {
-            Cursor::Row(row.first(graph))
+            Cursor::Row(self.walked().first(graph))
         }
     }
 
@@ -87,7 +96,7 @@ impl<'a> Candidates<'a> {
     fn walked(&self) -> &GraphRow<'a>
         ensures { result.now ≡ walked self.now }
     {
-        match &self.shorter {
+        match &self.shortest.row {
             Some(row) => row,
             None => &self.row,
         }
@@ -156,7 +165,7 @@ impl<'a> Candidates<'a> {
         ensures value { result ≡ passes (G.graph graph.now) self.now x }
         ensures steps { steps.new ≤ steps.old + 1 }
     {
-        match &self.shorter {
+        match &self.shortest.row {
             Some(_) => self.leads_to(graph, x, steps),
             None => true,
         }
@@ -173,16 +182,5 @@ impl<'a> Candidates<'a> {
             Direction::Out => stands(graph, row.label, row.label_number, row.vertex, x, steps),
             Direction::In => stands(graph, row.label, row.label_number, x, row.vertex, steps),
         }
-    }
-}
-
-/// How many triples the row has, of any label. It takes no step.
-pub fn turns<G: HoldGraph>(row: &GraphRow<'_>, graph: &G) -> u64
-    requires { IsTrue (has_vertex (G.graph graph.now) row.now.vertex) }
-    ensures { result ≡ turns (G.graph graph.now) row.now }
-{
-    match row.direction {
-        Direction::Out => graph.out_degree(row.vertex),
-        Direction::In => graph.in_degree(row.vertex),
     }
 }

@@ -23,7 +23,7 @@ use crate::aim::{Aim, keeps_aim};
 use crate::candidates::Candidates;
 use crate::explicit_pairs::is_explicit;
 use crate::found::Found;
-use crate::other_rows::shorter_row;
+use crate::other_rows::shortest_row;
 use dcg_store::Dcg;
 use flux_model::{Ledger, Partial, Pattern, Steps};
 use graph_rows::{Direction, GraphRow};
@@ -116,14 +116,15 @@ fn candidates_at<'a, G: HoldGraph>(
     ensures way { IsWay (G.label_text search.now.graph.now) search.now.pattern.now (G.graph search.now.graph.now)
         partial.now (nth_vertex search.now.order k) (walked result) }
     ensures short { turns (G.graph search.now.graph.now) (walked result) ≤ degree (G.graph search.now.graph.now) result.row.vertex }
+    ensures counted { result.shortest.turns ≤ degree (G.graph search.now.graph.now) result.row.vertex }
     ensures once { IsDistinct nat_eq result.layer.now }
     ensures rows { (v : ℕ) → list_any (nat_eq v) result.layer.now ≡ is_some (row_at search.now.dcg.now (nth_vertex search.now.order k) v) }
 {
     let row = row_to(search, k, partial);
-    let shorter = shorter_row(search, k, partial, &row);
+    let shortest = shortest_row(search, k, partial, &row);
     Candidates {
         row,
-        shorter,
+        shortest,
         layer: search.dcg.row_vertices(search.order.vertex(k)),
     }
 }

@@ -39,8 +39,8 @@ returns-then-k-len-clause-some g t c =
     (λ same. grew_by_none (list c.args.found.now) (list c.hand_over.new.found) (members_at s.pattern.now (g.G.HoldGraph.graph s.graph.now) s.aim c.args.partial.now) same)
     c.hand_over.ensures.err
 
-pub first-at-requires : goal.first-at-requires
-first-at-requires g t c = c.candidates_at-candidates.ensures.way.stands
+pub first-at-requires-clause-stands : goal.first-at-requires-clause-stands
+first-at-requires-clause-stands g t c = c.candidates_at-candidates.ensures.way.stands
 
 pub loop-x-init : goal.loop-x-init
 loop-x-init g t c =

@@ -1,13 +1,13 @@
 use Rattle.std.proofs.Common.{arith}
 use Rattle.tree_search.specs.Ways.{IsWay}
-use Rattle.tree_search.proofs.WayLemmas.{walked_way, walked_short}
+use Rattle.tree_search.proofs.WayLemmas.{walked_way, walked_short, turns_few}
 use Rattle.tree_search.proofs.TieLemmas.{children_count}
 use Rattle.tree_search.specs.Given.{nth_vertex}
 use Rattle.tree_search.proofs.GivenLemmas.{vertex_inside, anchor_stands, member_in_row}
 use Rattle.tree_search.proofs.search.candidates_at.Goals as goal
 
-pub shorter_row-shorter-requires-clause-stands : goal.shorter_row-shorter-requires-clause-stands
-shorter_row-shorter-requires-clause-stands g c =
+pub shortest_row-shortest-requires-clause-stands : goal.shortest_row-shortest-requires-clause-stands
+shortest_row-shortest-requires-clause-stands g c =
     let s = c.args.search.now in
     let r = c.row_to-row.result in
     anchor_stands s.pattern.now s.tree.now s.dcg.now (g.G.HoldGraph.graph s.graph.now) s.order c.requires.ready c.args.k c.requires.few c.args.partial.now c.requires.given c.requires.some r.vertex r.direction r.label.now c.row_to-row.ensures.row
@@ -25,12 +25,12 @@ returns-clause-way g c =
       number = c.row_to-row.ensures.number;
       leads = member_in_row q s.tree.now s.dcg.now graph s.order c.requires.ready c.args.k c.requires.few p c.requires.given c.requires.some r.vertex r.direction r.label.now c.row_to-row.ensures.row;
     } in
-    walked_way (g.G.HoldGraph.label_text s.graph.now) q graph p w r own c.shorter_row-shorter.result c.shorter_row-shorter.ensures
+    walked_way (g.G.HoldGraph.label_text s.graph.now) q graph p w r own c.shortest_row-shortest.result.row c.shortest_row-shortest.ensures.row
 
 pub returns-clause-short : goal.returns-clause-short
 returns-clause-short g c =
     let s = c.args.search.now in
-    walked_short (g.G.HoldGraph.label_text s.graph.now) s.pattern.now (g.G.HoldGraph.graph s.graph.now) c.args.partial.now (nth_vertex s.order c.args.k) c.row_to-row.result c.shorter_row-shorter.result c.shorter_row-shorter.ensures
+    walked_short (g.G.HoldGraph.label_text s.graph.now) s.pattern.now (g.G.HoldGraph.graph s.graph.now) c.args.partial.now (nth_vertex s.order c.args.k) c.row_to-row.result c.shortest_row-shortest.result.row c.shortest_row-shortest.ensures.row
 
 pub row_vertices-requires-clause-vertex : goal.row_vertices-requires-clause-vertex
 row_vertices-requires-clause-vertex g c =
@@ -39,3 +39,8 @@ row_vertices-requires-clause-vertex g c =
     let count = children_count s.pattern.now s.tree.now s.dcg.now graph c.requires.ready.belongs c.requires.ready.exact in
     let inside = vertex_inside s.pattern.now s.tree.now s.dcg.now graph s.order c.requires.ready c.args.k c.requires.few c.args.partial.now c.requires.given in
     omega (arith, count, inside, c.requires.given.places, c.vertex.ensures)
+
+pub returns-clause-counted : goal.returns-clause-counted
+returns-clause-counted g c =
+    let few = turns_few (g.G.HoldGraph.graph c.args.search.now.graph.now) c.row_to-row.result in
+    omega (arith, few, c.shortest_row-shortest.ensures.turns)

@@ -2,7 +2,7 @@ use Rattle.std.proofs.Common.{◌≤◌}
 use Rattle.std.specs.Prelude.{IfSome}
 use Rattle.tree_search.specs.Given.{nth_vertex}
 use Rattle.tree_search.specs.Ways.{turns, IsShorterWay}
-use Rattle.tree_search.proofs.other_rows.shorter_row.Given as goal
+use Rattle.tree_search.proofs.other_rows.shortest_row.Given as goal
 
 -- what was found is no longer than the row, and neither is what is looked for
 abbrev pub invariant-loop-i : goal.invariant-loop-i
@@ -10,6 +10,6 @@ invariant-loop-i g l =
     let s = l.search in
     let graph = g.G.HoldGraph.graph s.graph.now in
     record {
-      least : l.least ≤ turns graph l.than;
-      shortest : IfSome l.shortest (IsShorterWay (g.G.HoldGraph.label_text s.graph.now) s.pattern.now graph l.partial (nth_vertex s.order l.k) l.than);
+      turns : l.shortest.turns ≤ turns graph l.than;
+      row : IfSome l.shortest.row (IsShorterWay (g.G.HoldGraph.label_text s.graph.now) s.pattern.now graph l.partial (nth_vertex s.order l.k) l.than);
     }

@@ -1,6 +1,6 @@
 use Rattle.std.proofs.Common.{ap, ℕ, List, get_or, arith}
 use Rattle.nontree_test.proofs.NonTreeLemmas.{non_tree_within, place_within}
-use Rattle.tree_search.proofs.other_rows.shorter_row.Goals as goal
+use Rattle.tree_search.proofs.other_rows.shortest_row.Goals as goal
 
 pub row_by-requires-clause-edge : goal.row_by-requires-clause-edge
 row_by-requires-clause-edge g c =
