@@ -44,7 +44,7 @@ answers_next g qs k q e =
     ∙ ap (λ n. answer_deltas 0 g (take k qs) ++ with_delta (answer n g q) []) number
 
 -- a delta in another order has a map where it has one
-with_delta-reordered : (d e : Delta) → IsReordered d e → AreReordered (with_delta d []) (with_delta e [])
+pub with_delta-reordered : (d e : Delta) → IsReordered d e → AreReordered (with_delta d []) (with_delta e [])
 with_delta-reordered d e r = by (nat_lt 0 (length (e.gained ++ e.lost))) (ap (nat_lt 0) same)
   where
     same : length (d.gained ++ d.lost) ≡ length (e.gained ++ e.lost)

@@ -2,3 +2,13 @@ pub mod ZipLemmas
 pub mod AnswerLemmas
 pub mod IndexLemmas
 pub mod CostLemmas
+pub mod RouteLemmas
+pub mod ClassLemmas
+pub mod DeltaLemmas
+pub mod MovedLemmas
+pub mod TurnLemmas
+pub mod ApplyLemmas
+pub mod StepLemmas
+pub mod SoleLemmas
+pub mod SpendLemmas
+pub mod UpdateCostLemmas

@@ -11,7 +11,7 @@ use Rattle.flux_model.specs.declared.tree.TreeLink.{TreeLink}
 use Rattle.dcg_store.specs.SoundRows.{state_rows_code}
 use Rattle.pattern_registry.specs.States.{PatternStates}
 
-abbrev text_code : Coded (List ℕ)
+abbrev pub text_code : Coded (List ℕ)
 text_code = coded_list coded_ℕ
 
 abbrev is_iso : Mode → Bool

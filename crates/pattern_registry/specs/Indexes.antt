@@ -1,9 +1,16 @@
--- What a contract sees of the patterns and of what is kept of each.
-use Rattle.std.specs.Prelude.{Bool, List, map}
+-- What a contract sees of the patterns and of what is kept of each, and what a registry keeps.
+use Rattle.std.specs.Prelude.{ℕ, Bool, List, map}
 use Rattle.flux_model.specs.Pattern.{PatternGraph}
-use Rattle.pattern_registry.specs.States.{PatternStates}
+use Rattle.pattern_registry.specs.Routes.{AreRoutes}
+use Rattle.pattern_registry.specs.States.{PatternStates, IsIndexed}
 use Rattle.pattern_registry.specs.declared.index.PatternIndex.{PatternIndex}
+use Rattle.pattern_registry.specs.declared.routes.Route.{Route}
 
 abbrev pub pattern_states : List PatternGraph → List PatternIndex → Bool → PatternStates
 pattern_states patterns indexes broken =
     record { patterns = patterns; trees = map (λ (i : PatternIndex). i.tree) indexes; rows = map (λ (i : PatternIndex). i.dcg) indexes; is_broken = broken }
+
+-- each pattern has what it needs, and the route of each label leads to the patterns that have an edge with it
+pub record IsRegistry (s : PatternStates) (entries : List (List ℕ × Route)) : Type 0 where
+  pub indexed : IsIndexed s
+  pub routed : AreRoutes s.patterns entries

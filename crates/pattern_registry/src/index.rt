@@ -1,19 +1,23 @@
 //! `PatternIndex`: the tree and the rows of one pattern.
-ghost use Rattle.std.specs.Prelude.{◌≡◌, ◌≤◌, ◌+◌, IfOk, OnOk, IsPermutation};
+ghost use Rattle.std.specs.Prelude.{◌≡◌, ◌≤◌, ◌+◌, true, false, IfOk, OnOk, IsPermutation};
+ghost use Rattle.dcg_updates.specs.VertexApart.{IsVertexApart};
+ghost use Rattle.flux_model.specs.Change.{gained};
 ghost use Rattle.flux_model.specs.Costs.{no_dead_end_cost};
 ghost use Rattle.flux_model.specs.Embedding.{embeddings};
 ghost use Rattle.flux_model.specs.Exact.{IsExact};
+ghost use Rattle.flux_model.specs.Graph.{Graph, has_both_ends, has_triple, with_triple, without_triple};
 ghost use Rattle.flux_model.specs.Tree.{tree, BelongsTo};
+ghost use Rattle.pattern_registry.specs.UpdateCosts.{both_costs, rows_cost, looks_cost};
 ghost use Rattle.tree_search.specs.SearchCosts.{MeetsNoDeadEnd};
 
 use dcg_store::Dcg;
-use dcg_transition::build;
-use flux_model::{Ledger, Maps, Pattern, Steps};
-use graph_traits::ReadGraph;
+use dcg_transition::{after_delete, after_insert, after_vertex, build};
+use flux_model::{Ledger, Maps, Pattern, Steps, Triple};
+use graph_traits::{HoldGraph, ReadGraph};
 use label_cards::cards;
 use query_tree::QueryTree;
 use std::alloc::{AllocError, Global};
-use tree_search::all;
+use tree_search::{all, at_edge};
 
 /// What is kept of one pattern.
 #[derive(Drop)]
@@ -58,6 +62,97 @@ impl PatternIndex {
     {
         let mut maps = Maps::new(alloc);
         all(pattern, &self.tree, &self.dcg, graph, &mut maps, steps)?;
+        Ok(maps)
+    }
+
+    /// Makes the rows exact over the graph, which has the triple, where they are so over the graph without it: what the pattern
+    /// gains by it, in some order.
+    pub fn insert<G: ReadGraph<L>, L: Ledger>(
+        &mut self,
+        alloc: Global,
+        pattern: &Pattern,
+        graph: &G,
+        triple: &Triple,
+        steps: &mut Steps<L>,
+    ) -> Result<Maps, AllocError>
+        requires belongs { BelongsTo pattern.now self.old.tree }
+        requires ends { has_both_ends (G.graph graph.now) triple.now ≡ true }
+        requires stands { has_triple (G.graph graph.now) triple.now ≡ true }
+        requires was { IsExact pattern.now self.old.tree (without_triple (G.graph graph.now) triple.now) self.old.dcg }
+        ensures tree { self.new.tree ≡ self.old.tree }
+        ensures exact { OnOk result (IsExact pattern.now self.old.tree (G.graph graph.now) self.new.dcg) }
+        ensures gained { let g = G.graph graph.now in
+            IfOk result (λ maps. IsPermutation (gained pattern.now (without_triple g triple.now) g) maps) }
+        ensures steps { let g = G.graph graph.now in
+            OnOk result (steps.new ≤ steps.old + both_costs (without_triple g triple.now) g triple.now (pattern.now, self.old.tree)) }
+    {
+        after_insert(pattern, &self.tree, &mut self.dcg, graph, triple, steps)?;
+        self.embeddings_using(alloc, pattern, graph, triple, steps)
+    }
+
+    /// Makes the rows exact over the graph, which does not have the triple, where they are so over the graph with it.
+    pub fn delete<G: ReadGraph<L>, L: Ledger>(
+        &mut self,
+        pattern: &Pattern,
+        graph: &G,
+        triple: &Triple,
+        steps: &mut Steps<L>,
+    )
+        requires belongs { BelongsTo pattern.now self.old.tree }
+        requires ends { has_both_ends (G.graph graph.now) triple.now ≡ true }
+        requires gone { has_triple (G.graph graph.now) triple.now ≡ false }
+        requires was { IsExact pattern.now self.old.tree (with_triple (G.graph graph.now) triple.now) self.old.dcg }
+        ensures tree { self.new.tree ≡ self.old.tree }
+        ensures exact { IsExact pattern.now self.old.tree (G.graph graph.now) self.new.dcg }
+        ensures steps { let g = G.graph graph.now in
+            steps.new ≤ steps.old + rows_cost g (with_triple g triple.now) triple.now (pattern.now, self.old.tree) }
+    {
+        after_delete(pattern, &self.tree, &mut self.dcg, graph, triple, steps);
+    }
+
+    /// Makes the rows exact over the graph, where they are so over the graph with the vertex `id` more or fewer.
+    pub fn move_vertex<G: ReadGraph<L>, L: Ledger>(
+        &mut self,
+        pattern: &Pattern,
+        graph: &G,
+        id: u32,
+        steps: &mut Steps<L>,
+    ) -> Result<(), AllocError>
+        requires belongs { BelongsTo pattern.now self.old.tree }
+        requires was { (old : Graph) × IsVertexApart id old (G.graph graph.now) × IsExact pattern.now self.old.tree old self.old.dcg }
+        ensures tree { self.new.tree ≡ self.old.tree }
+        ensures exact { OnOk result (IsExact pattern.now self.old.tree (G.graph graph.now) self.new.dcg) }
+        ensures steps { steps.new ≤ steps.old + 3 }
+    {
+        after_vertex(pattern, &self.tree, &mut self.dcg, graph, id, steps)
+    }
+
+    /// The embeddings of the graph that use the triple, which are those that are none without it, in some order.
+    ///
+    /// The rows have to be exact over the graph, which has the triple.
+    pub fn embeddings_using<G: ReadGraph<L>, L: Ledger>(
+        &self,
+        alloc: Global,
+        pattern: &Pattern,
+        graph: &G,
+        triple: &Triple,
+        steps: &mut Steps<L>,
+    ) -> Result<Maps, AllocError>
+        requires belongs { BelongsTo pattern.now self.now.tree }
+        requires stands { has_triple (G.graph graph.now) triple.now ≡ true }
+        requires exact { IsExact pattern.now self.now.tree (G.graph graph.now) self.now.dcg }
+        ensures gained { let g = G.graph graph.now in
+            IfOk result (λ maps. IsPermutation (gained pattern.now (without_triple g triple.now) g) maps) }
+        ensures steps { OnOk result (steps.new ≤ steps.old + looks_cost (G.graph graph.now) triple.now (pattern.now, self.now.tree)) }
+    {
+        // For the proof: what every graph keeps.
+        let _count = graph.edge_count();
+        let mut maps = Maps::new(alloc);
+        for i in 0..pattern.edge_count() {
+            at_edge(
+                pattern, &self.tree, &self.dcg, graph, i, triple, &mut maps, steps,
+            )?;
+        }
         Ok(maps)
     }
 }

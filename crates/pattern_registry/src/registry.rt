@@ -1,18 +1,25 @@
 //! `Registry`: the patterns of a run, and what is kept of each.
-ghost use Rattle.std.specs.Prelude.{◌≡◌, ◌<◌, ◌≤◌, ◌+◌, ◌*◌, ℕ, length, slice_get, false, Some, IfOk, OnOk};
+ghost use Rattle.std.specs.Prelude.{◌≡◌, ◌<◌, ◌≤◌, ◌+◌, ◌*◌, ℕ, length, slice_get, false, true};
+ghost use Rattle.std.specs.Prelude.{Some, Ok, Err, IfOk, IfErr, OnOk, OnErr};
 ghost use Rattle.std.specs.FinMap.{len};
+ghost use Rattle.std.specs.List.{zip};
 ghost use Rattle.std.specs.Option.{option_map};
-ghost use Rattle.flux_model.specs.Deltas.{answer_deltas, AreReordered};
-ghost use Rattle.flux_model.specs.Graph.{Graph};
+ghost use Rattle.flux_model.specs.Costs.{update_cost};
+ghost use Rattle.flux_model.specs.Deltas.{answer_deltas, change_deltas, AreReordered};
+ghost use Rattle.flux_model.specs.Graph.{Graph, IsGraph, apply, has_triple};
+ghost use Rattle.flux_model.specs.declared.graph.Update.TheVariants.{AddVertex, DropVertex, AddEdge, DropEdge};
 ghost use Rattle.flux_model.specs.Pattern.{PatternGraph, vertex_count};
 ghost use Rattle.flux_model.specs.Tree.{BelongsTo};
 ghost use Rattle.pattern_registry.specs.States.{trees_over, IsIndexed, AreExact};
 ghost use Rattle.pattern_registry.specs.AnswerCosts.{MeetNoDeadEnd, no_dead_end_costs};
 
 use crate::index::PatternIndex;
+use crate::routes::{Routes, route_of, routes_to};
+use crate::triples::{delete_along, insert_along, losses_along};
+use crate::vertices::{gains_at, losses_at, move_all};
 use dcg_store::Dcg;
-use flux_model::{Delta, Deltas, Ledger, Maps, Patterns, Steps};
-use graph_traits::ReadGraph;
+use flux_model::{Code, Delta, Deltas, Labels, Ledger, Maps, Patterns, Steps, Triple, Update};
+use graph_traits::{HoldGraph, KeepGraph, ReadGraph};
 use query_tree::QueryTree;
 use std::alloc::{AllocError, Global};
 use std::marker::Model;
@@ -23,25 +30,27 @@ use std::marker::Model;
 /// broken, nothing is known of them.
 #[derive(Drop)]
 pub struct Registry {
+    alloc: Global,
     patterns: Patterns,
     /// For each pattern, in the same order.
     indexes: Vec<PatternIndex>,
+    routes: Routes,
     is_broken: bool,
 }
 
 impl Model for Registry {
-    ghost use Rattle.pattern_registry.specs.States.{PatternStates, IsIndexed};
+    ghost use Rattle.pattern_registry.specs.States.{PatternStates};
     ghost use Rattle.pattern_registry.specs.Codes.{pattern_states_code};
 
     ghost Value = { PatternStates };
 
     ghost coded = { pattern_states_code };
 
-    ghost use Rattle.pattern_registry.specs.Indexes.{pattern_states};
+    ghost use Rattle.pattern_registry.specs.Indexes.{pattern_states, IsRegistry};
 
     ghost view = { λ r. pattern_states r.patterns r.indexes.items r.is_broken };
 
-    ghost invariant = { λ r. IsIndexed (pattern_states r.patterns r.indexes.items r.is_broken) };
+    ghost invariant = { λ r. IsRegistry (pattern_states r.patterns r.indexes.items r.is_broken) r.routes.entries };
 }
 
 impl Registry {
@@ -63,9 +72,12 @@ impl Registry {
         for k in 0..patterns.count() {
             indexes.push(PatternIndex::build(alloc, patterns.get(k), graph, steps)?)?;
         }
+        let routes = routes_to(alloc, &patterns)?;
         Ok(Registry {
+            alloc,
             patterns,
             indexes,
+            routes,
             is_broken: false,
         })
     }
@@ -77,7 +89,6 @@ impl Registry {
     /// and the rows that lead to the embeddings account for. `AllocError` where no memory is left.
     pub fn answers<G: ReadGraph<L>, L: Ledger>(
         &self,
-        alloc: Global,
         graph: &G,
         steps: &mut Steps<L>,
     ) -> Result<Deltas, AllocError>
@@ -86,18 +97,56 @@ impl Registry {
         ensures steps { OnOk result (MeetNoDeadEnd self.now
             → steps.new ≤ steps.old + no_dead_end_costs (G.graph graph.now) self.now.patterns self.now.trees) }
     {
-        let mut deltas = Deltas::new(alloc);
+        let mut deltas = Deltas::new(self.alloc);
         for k in 0..self.patterns.count() {
             let pattern = self.patterns.get(k);
-            let gained = self.index_of(k).embeddings(alloc, pattern, graph, steps)?;
+            let index = self.index_of(k);
+            let gained = index.embeddings(self.alloc, pattern, graph, steps)?;
             let delta = Delta {
                 pattern: k,
                 gained,
-                lost: Maps::new(alloc),
+                lost: Maps::new(self.alloc),
             };
             deltas.add_unless_empty(delta)?;
         }
         Ok(deltas)
+    }
+
+    /// Changes the graph, over which the rows have to be exact, and the rows with it: what each pattern gains and loses by the
+    /// update, or its first refusal.
+    ///
+    /// What one pattern gains or loses stands in some order, and a pattern that gains and loses nothing has no delta. A refusal
+    /// changes nothing. At `AllocError` the registry is broken, and the graph is as before or changed.
+    pub fn apply<G: KeepGraph + ReadGraph<L>, L: Ledger>(
+        &mut self,
+        graph: &mut G,
+        update: &Update,
+        steps: &mut Steps<L>,
+    ) -> Result<Result<Deltas, Code>, AllocError>
+        requires { AreExact self.old (G.graph graph.old) }
+        ensures made { let due = apply (G.limits graph.old) (G.graph graph.old) update.now in
+            IfOk result (λ answer. OnOk answer (due ≡ Ok (G.graph graph.new))) }
+        ensures deltas { let due = change_deltas 0 (G.graph graph.old) (G.graph graph.new) self.old.patterns in
+            IfOk result (λ answer. IfOk answer (λ deltas. AreReordered due deltas)) }
+        ensures exact { IfOk result (λ answer. OnOk answer (AreExact self.new (G.graph graph.new))) }
+        ensures refused { let due = apply (G.limits graph.old) (G.graph graph.old) update.now in
+            IfOk result (λ answer. IfErr answer (λ code. due ≡ Err code)) }
+        ensures unchanged { IfOk result (λ answer. OnErr answer (self.new ≡ self.old)) }
+        ensures same_graph { IfOk result (λ answer. OnErr answer (G.graph graph.new ≡ G.graph graph.old)) }
+        ensures limits { G.limits graph.new ≡ G.limits graph.old }
+        ensures patterns { OnOk result (self.new.patterns ≡ self.old.patterns) }
+        ensures trees { OnOk result (self.new.trees ≡ self.old.trees) }
+        ensures broken { OnErr result (self.new.is_broken ≡ true) }
+        ensures graphs { IfOk result (λ answer. IsGraph (G.graph graph.old) × IsGraph (G.graph graph.new)) }
+        ensures steps { let g = G.graph graph.old in let due = apply (G.limits graph.old) g update.now in
+            OnOk result (steps.new ≤ steps.old + update_cost (zip self.old.patterns self.old.trees) g update.now due) }
+    {
+        match update {
+            Update::AddVertex { id, labels } => self.add_vertex(graph, *id, labels, steps),
+            Update::DropVertex { id } => self.remove_vertex(graph, *id, steps),
+            Update::AddEdge(triple) => self.insert(graph, triple, steps),
+            Update::DropEdge(triple) => self.remove(graph, triple, steps),
+        }
     }
 
     /// The patterns. Each has a tree and rows.
@@ -145,6 +194,190 @@ impl Registry {
         self.is_broken
     }
 
+    /// `apply` where a vertex is added.
+    fn add_vertex<G: KeepGraph + ReadGraph<L>, L: Ledger>(
+        &mut self,
+        graph: &mut G,
+        id: u32,
+        labels: &Labels,
+        steps: &mut Steps<L>,
+    ) -> Result<Result<Deltas, Code>, AllocError>
+        requires { AreExact self.old (G.graph graph.old) }
+        ensures made { let due = apply (G.limits graph.old) (G.graph graph.old) (AddVertex id labels.now) in
+            IfOk result (λ answer. OnOk answer (due ≡ Ok (G.graph graph.new))) }
+        ensures deltas { let due = change_deltas 0 (G.graph graph.old) (G.graph graph.new) self.old.patterns in
+            IfOk result (λ answer. IfOk answer (λ deltas. AreReordered due deltas)) }
+        ensures exact { IfOk result (λ answer. OnOk answer (AreExact self.new (G.graph graph.new))) }
+        ensures refused { let due = apply (G.limits graph.old) (G.graph graph.old) (AddVertex id labels.now) in
+            IfOk result (λ answer. IfErr answer (λ code. due ≡ Err code)) }
+        ensures unchanged { IfOk result (λ answer. OnErr answer (self.new ≡ self.old)) }
+        ensures same_graph { IfOk result (λ answer. OnErr answer (G.graph graph.new ≡ G.graph graph.old)) }
+        ensures limits { G.limits graph.new ≡ G.limits graph.old }
+        ensures patterns { OnOk result (self.new.patterns ≡ self.old.patterns) }
+        ensures trees { OnOk result (self.new.trees ≡ self.old.trees) }
+        ensures broken { OnErr result (self.new.is_broken ≡ true) }
+        ensures graphs { IfOk result (λ answer. IsGraph (G.graph graph.old) × IsGraph (G.graph graph.new)) }
+        ensures steps { let g = G.graph graph.old in let due = apply (G.limits graph.old) g (AddVertex id labels.now) in
+            OnOk result (steps.new ≤ steps.old + update_cost (zip self.old.patterns self.old.trees) g (AddVertex id labels.now) due) }
+    {
+        // For the proof: what every graph keeps.
+        let _before = graph.edge_count();
+        self.is_broken = true;
+        if let Err(code) = graph.add_vertex(id, labels)? {
+            self.is_broken = false;
+            return Ok(Err(code));
+        }
+        let _after = graph.edge_count();
+        move_all(&self.patterns, &mut self.indexes, graph, id, steps)?;
+        let deltas = gains_at(self.alloc, &self.patterns, &self.indexes, id, steps)?;
+        self.is_broken = false;
+        Ok(Ok(deltas))
+    }
+
+    /// `apply` where a vertex is removed. What is lost is read off the rows before they move.
+    fn remove_vertex<G: KeepGraph + ReadGraph<L>, L: Ledger>(
+        &mut self,
+        graph: &mut G,
+        id: u32,
+        steps: &mut Steps<L>,
+    ) -> Result<Result<Deltas, Code>, AllocError>
+        requires { AreExact self.old (G.graph graph.old) }
+        ensures made { let due = apply (G.limits graph.old) (G.graph graph.old) (DropVertex id) in
+            IfOk result (λ answer. OnOk answer (due ≡ Ok (G.graph graph.new))) }
+        ensures deltas { let due = change_deltas 0 (G.graph graph.old) (G.graph graph.new) self.old.patterns in
+            IfOk result (λ answer. IfOk answer (λ deltas. AreReordered due deltas)) }
+        ensures exact { IfOk result (λ answer. OnOk answer (AreExact self.new (G.graph graph.new))) }
+        ensures refused { let due = apply (G.limits graph.old) (G.graph graph.old) (DropVertex id) in
+            IfOk result (λ answer. IfErr answer (λ code. due ≡ Err code)) }
+        ensures unchanged { IfOk result (λ answer. OnErr answer (self.new ≡ self.old)) }
+        ensures same_graph { IfOk result (λ answer. OnErr answer (G.graph graph.new ≡ G.graph graph.old)) }
+        ensures limits { G.limits graph.new ≡ G.limits graph.old }
+        ensures patterns { OnOk result (self.new.patterns ≡ self.old.patterns) }
+        ensures trees { OnOk result (self.new.trees ≡ self.old.trees) }
+        ensures broken { OnErr result (self.new.is_broken ≡ true) }
+        ensures graphs { IfOk result (λ answer. IsGraph (G.graph graph.old) × IsGraph (G.graph graph.new)) }
+        ensures steps { let g = G.graph graph.old in let due = apply (G.limits graph.old) g (DropVertex id) in
+            OnOk result (steps.new ≤ steps.old + update_cost (zip self.old.patterns self.old.trees) g (DropVertex id) due) }
+    {
+        // For the proof: what every graph keeps.
+        let _before = graph.edge_count();
+        self.is_broken = true;
+        if let Err(code) = graph.remove_vertex(id) {
+            self.is_broken = false;
+            return Ok(Err(code));
+        }
+        let _after = graph.edge_count();
+        let deltas = losses_at(self.alloc, &self.patterns, &self.indexes, id, steps)?;
+        move_all(&self.patterns, &mut self.indexes, graph, id, steps)?;
+        self.is_broken = false;
+        Ok(Ok(deltas))
+    }
+
+    /// `apply` where a triple is added.
+    fn insert<G: KeepGraph + ReadGraph<L>, L: Ledger>(
+        &mut self,
+        graph: &mut G,
+        triple: &Triple,
+        steps: &mut Steps<L>,
+    ) -> Result<Result<Deltas, Code>, AllocError>
+        requires { AreExact self.old (G.graph graph.old) }
+        ensures made { let due = apply (G.limits graph.old) (G.graph graph.old) (AddEdge triple.now) in
+            IfOk result (λ answer. OnOk answer (due ≡ Ok (G.graph graph.new))) }
+        ensures deltas { let due = change_deltas 0 (G.graph graph.old) (G.graph graph.new) self.old.patterns in
+            IfOk result (λ answer. IfOk answer (λ deltas. AreReordered due deltas)) }
+        ensures exact { IfOk result (λ answer. OnOk answer (AreExact self.new (G.graph graph.new))) }
+        ensures refused { let due = apply (G.limits graph.old) (G.graph graph.old) (AddEdge triple.now) in
+            IfOk result (λ answer. IfErr answer (λ code. due ≡ Err code)) }
+        ensures unchanged { IfOk result (λ answer. OnErr answer (self.new ≡ self.old)) }
+        ensures same_graph { IfOk result (λ answer. OnErr answer (G.graph graph.new ≡ G.graph graph.old)) }
+        ensures limits { G.limits graph.new ≡ G.limits graph.old }
+        ensures patterns { OnOk result (self.new.patterns ≡ self.old.patterns) }
+        ensures trees { OnOk result (self.new.trees ≡ self.old.trees) }
+        ensures broken { OnErr result (self.new.is_broken ≡ true) }
+        ensures graphs { IfOk result (λ answer. IsGraph (G.graph graph.old) × IsGraph (G.graph graph.new)) }
+        ensures steps { let g = G.graph graph.old in let due = apply (G.limits graph.old) g (AddEdge triple.now) in
+            OnOk result (steps.new ≤ steps.old + update_cost (zip self.old.patterns self.old.trees) g (AddEdge triple.now) due) }
+    {
+        // For the proof: what every graph keeps.
+        let _before = graph.edge_count();
+        self.is_broken = true;
+        if let Err(code) = graph.insert(triple)? {
+            self.is_broken = false;
+            return Ok(Err(code));
+        }
+        let _after = graph.edge_count();
+        let route = route_of(&self.routes, &triple.label);
+        let deltas = insert_along(
+            self.alloc,
+            &self.patterns,
+            &mut self.indexes,
+            route,
+            graph,
+            triple,
+            steps,
+        )?;
+        self.is_broken = false;
+        Ok(Ok(deltas))
+    }
+
+    /// `apply` where a triple is removed. What is lost is searched for before the triple goes and the rows move.
+    fn remove<G: KeepGraph + ReadGraph<L>, L: Ledger>(
+        &mut self,
+        graph: &mut G,
+        triple: &Triple,
+        steps: &mut Steps<L>,
+    ) -> Result<Result<Deltas, Code>, AllocError>
+        requires { AreExact self.old (G.graph graph.old) }
+        ensures made { let due = apply (G.limits graph.old) (G.graph graph.old) (DropEdge triple.now) in
+            IfOk result (λ answer. OnOk answer (due ≡ Ok (G.graph graph.new))) }
+        ensures deltas { let due = change_deltas 0 (G.graph graph.old) (G.graph graph.new) self.old.patterns in
+            IfOk result (λ answer. IfOk answer (λ deltas. AreReordered due deltas)) }
+        ensures exact { IfOk result (λ answer. OnOk answer (AreExact self.new (G.graph graph.new))) }
+        ensures refused { let due = apply (G.limits graph.old) (G.graph graph.old) (DropEdge triple.now) in
+            IfOk result (λ answer. IfErr answer (λ code. due ≡ Err code)) }
+        ensures unchanged { IfOk result (λ answer. OnErr answer (self.new ≡ self.old)) }
+        ensures same_graph { IfOk result (λ answer. OnErr answer (G.graph graph.new ≡ G.graph graph.old)) }
+        ensures limits { G.limits graph.new ≡ G.limits graph.old }
+        ensures patterns { OnOk result (self.new.patterns ≡ self.old.patterns) }
+        ensures trees { OnOk result (self.new.trees ≡ self.old.trees) }
+        ensures broken { OnErr result (self.new.is_broken ≡ true) }
+        ensures graphs { IfOk result (λ answer. IsGraph (G.graph graph.old) × IsGraph (G.graph graph.new)) }
+        ensures steps { let g = G.graph graph.old in let due = apply (G.limits graph.old) g (DropEdge triple.now) in
+            OnOk result (steps.new ≤ steps.old + update_cost (zip self.old.patterns self.old.trees) g (DropEdge triple.now) due) }
+    {
+        // For the proof: what every graph keeps.
+        let _before = graph.edge_count();
+        if !graph.has_edge(triple.src, &triple.label, triple.dst, steps) {
+            return Ok(Err(refuse_removal(graph, triple)));
+        }
+        self.is_broken = true;
+        let route = route_of(&self.routes, &triple.label);
+        let deltas = losses_along(
+            self.alloc,
+            &self.patterns,
+            &self.indexes,
+            route,
+            graph,
+            triple,
+            steps,
+        )?;
+        if let Err(code) = graph.remove(triple) {
+            self.is_broken = false;
+            return Ok(Err(code));
+        }
+        let _after = graph.edge_count();
+        delete_along(
+            &self.patterns,
+            &mut self.indexes,
+            route,
+            graph,
+            triple,
+            steps,
+        );
+        self.is_broken = false;
+        Ok(Ok(deltas))
+    }
+
     /// What is kept of the pattern at place `k`, which has to be below the number of patterns.
     fn index_of(&self, k: usize) -> &PatternIndex
         requires { k < length self.now.patterns }
@@ -154,5 +387,18 @@ impl Registry {
         ensures whole { self.now.is_broken ≡ false → result.now.dcg.is_broken ≡ false }
     {
         &self.indexes[k]
+    }
+}
+
+/// The refusal of a removal of a triple that does not stand.
+fn refuse_removal<G: KeepGraph>(graph: &mut G, triple: &Triple) -> Code
+    requires { has_triple (G.graph graph.old) triple.now ≡ false }
+    ensures refused { apply (G.limits graph.old) (G.graph graph.old) (DropEdge triple.now) ≡ Err result }
+    ensures same { G.graph graph.new ≡ G.graph graph.old }
+    ensures limits { G.limits graph.new ≡ G.limits graph.old }
+{
+    match graph.remove(triple) {
+        Ok(()) => unreachable!(),
+        Err(code) => code,
     }
 }

@@ -90,6 +90,6 @@ fn write_all<G: ReadGraph<L>, L: Ledger>(
     // For the proof: what a store holds is a graph.
     let _ = graph.vertex_count();
     let registry = Registry::start(alloc, patterns, graph, steps)?;
-    let mut deltas = registry.answers(alloc, graph, steps)?;
+    let mut deltas = registry.answers(graph, steps)?;
     write_answers(registry.patterns(), &mut deltas, text)
 }

@@ -59,7 +59,7 @@ fn is_right(alloc: Global, row: &Row) -> Result<bool, Unmade> {
     let patterns = patterns_of(alloc, row.patterns)?;
     let mut steps = Steps::new(Tally::new());
     let registry = Registry::start(alloc, patterns, &graph, &mut steps)?;
-    let mut answers = registry.answers(alloc, &graph, &mut steps)?;
+    let mut answers = registry.answers(&graph, &mut steps)?;
     answers.sort()?;
     Ok(are_answers(&answers, row.answers) && keeps(&registry, row.kept))
 }

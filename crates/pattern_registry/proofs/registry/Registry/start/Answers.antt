@@ -12,8 +12,10 @@ loop-k-preserved g c =
     c.in_ok-push.ensures.items
 
 pub invariant_of-result : goal.invariant_of-result
-invariant_of-result g c =
-    started-indexed (g.G.HoldGraph.graph c.args.graph.now) c.loop-k.k c.args.patterns c.loop-k.indexes.items (omega (arith, c.loop-k-test.false, c.count-k-end.ensures.count)) c.loop-k.invariant
+invariant_of-result g c = record {
+  indexed = started-indexed (g.G.HoldGraph.graph c.args.graph.now) c.loop-k.k c.args.patterns c.loop-k.indexes.items (omega (arith, c.loop-k-test.false, c.count-k-end.ensures.count)) c.loop-k.invariant;
+  routed = c.in_ok-routes.ensures;
+}
 
 pub returns-clause-trees : goal.returns-clause-trees
 returns-clause-trees g c =
