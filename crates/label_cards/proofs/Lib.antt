@@ -1,2 +1,5 @@
-pub mod FitLemmas
+pub mod CardLemmas
+pub mod CountLemmas
+pub mod GrownLemmas
 pub mod PassLemmas
+pub mod PlanLemmas

@@ -1,31 +1,34 @@
 //! The pass over the out row of a vertex.
-ghost use Rattle.std.specs.Prelude.{◌≡◌, ◌<◌, length, IsTrue};
+ghost use Rattle.std.specs.Prelude.{◌≡◌, ◌+◌, ◌<◌, ◌^◌, ◌==◌, ◌&&◌, Some, length, slice_index, IsTrue};
+ghost use Rattle.std.specs.Prelude.{if◌then◌else◌};
 ghost use Rattle.flux_model.specs.Graph.{has_vertex};
 ghost use Rattle.flux_model.specs.declared.graph.Triple.{Triple};
-ghost use Rattle.flux_model.specs.Pattern.{HasEnds, vertex_count, fits_edge};
 ghost use Rattle.graph_traits.specs.Rows.{triples_from};
-ghost use Rattle.label_cards.specs.Counted.{fits_of, triple_adds, row_adds, GrownBy, HasRoom};
+ghost use Rattle.label_cards.specs.Counted.{triple_adds, row_adds, GrownBy, HasRoom, AreFits};
+ghost use Rattle.label_cards.specs.Plans.{passes, IsPlan, IsTestIn};
 
-use flux_model::{Ledger, Pattern, PatternEdge, Steps};
+use crate::plan::{Plan, TripleTest};
+use flux_model::{Ledger, Steps};
 use graph_rows::{Direction, WholeRow};
 use graph_traits::{HoldGraph, ReadGraph, Turn};
 
-/// Adds to the count of each edge of the pattern how many triples that begin at `v` fit it.
+/// Adds to the count of each test of the plan how many triples that begin at `v` pass it.
 ///
-/// `fitted` has to tell which vertices of the pattern `v` fits.
-pub fn count_row<G: ReadGraph<L>, L: Ledger>(
+/// `fitted` has to tell which sets of the plan `v` fits.
+pub(crate) fn count_row<G: ReadGraph<L>, L: Ledger>(
     graph: &G,
-    pattern: &Pattern,
+    plan: &Plan<'_>,
     v: u32,
     fitted: &[bool],
     counts: &mut [u64],
     steps: &mut Steps<L>,
 )
     requires stands { IsTrue (has_vertex (G.graph graph.now) v) }
-    requires fits { fitted.now ≡ fits_of pattern.now (G.graph graph.now) v }
-    requires size { length counts.old ≡ length pattern.now.edges }
+    requires plan { IsPlan (G.label_text graph.now) plan.now }
+    requires fits { AreFits (G.graph graph.now) plan.now.sets.items v fitted.now }
+    requires size { length counts.old ≡ length plan.now.tests.items }
     requires room { HasRoom (length (triples_from (G.graph graph.now) v)) counts.old }
-    ensures { GrownBy (row_adds pattern.now (G.graph graph.now) v) counts.old counts.new }
+    ensures { GrownBy (row_adds (G.label_text graph.now) (G.graph graph.now) plan.now v) counts.old counts.new }
 {
     let row = WholeRow {
         vertex: v,
@@ -34,14 +37,14 @@ pub fn count_row<G: ReadGraph<L>, L: Ledger>(
     let mut at = row.first(graph);
     while let Some(turn) = row.next(graph, at, steps) {
         at = turn.next;
-        count_turn(graph, pattern, v, fitted, &turn, counts, steps);
+        count_turn(graph, plan, v, fitted, &turn, counts, steps);
     }
 }
 
-/// Adds one to the count of each edge of the pattern that a triple fits which begins at `v`.
+/// Adds one to the count of each test that a triple passes which begins at `v`.
 fn count_turn<G: ReadGraph<L>, L: Ledger>(
     graph: &G,
-    pattern: &Pattern,
+    plan: &Plan<'_>,
     v: u32,
     fitted: &[bool],
     turn: &Turn<'_>,
@@ -49,37 +52,51 @@ fn count_turn<G: ReadGraph<L>, L: Ledger>(
     steps: &mut Steps<L>,
 )
     requires end { IsTrue (has_vertex (G.graph graph.now) turn.now.other) }
-    requires fits { fitted.now ≡ fits_of pattern.now (G.graph graph.now) v }
-    requires size { length counts.old ≡ length pattern.now.edges }
+    requires number { G.label_text graph.now turn.now.number ≡ Some turn.now.label.now }
+    requires plan { IsPlan (G.label_text graph.now) plan.now }
+    requires fits { AreFits (G.graph graph.now) plan.now.sets.items v fitted.now }
+    requires size { length counts.old ≡ length plan.now.tests.items }
     requires room { HasRoom 1 counts.old }
     ensures { let triple : Triple = record { src = v; label = turn.now.label.now; dst = turn.now.other } in
-        GrownBy (triple_adds pattern.now (G.graph graph.now) triple) counts.old counts.new }
+        GrownBy (triple_adds (G.label_text graph.now) (G.graph graph.now) plan.now triple) counts.old counts.new }
 {
-    for k in 0..pattern.edge_count() {
-        if fits_edge(graph, pattern, pattern.edge(k), v, fitted, turn, steps) {
-            counts[k] += 1;
-        }
+    let places = plan.row(turn.number);
+    for place in places {
+        let passed = passes(graph, plan, &plan.tests[*place], v, fitted, turn, steps);
+        add_if(passed, counts, *place);
     }
 }
 
-/// Whether a triple that begins at `v` fits an edge of the pattern. The head is read only where all else fits.
-fn fits_edge<G: ReadGraph<L>, L: Ledger>(
+/// Adds one to the count at a place, if that is so.
+pub(crate) fn add_if(so: bool, counts: &mut [u64], place: usize)
+    requires place { place < length counts.old }
+    requires room { IsTrue so → slice_index counts.old place + 1 < 2 ^ 64 }
+    ensures { GrownBy (λ p. if place == p && so then 1 else 0) counts.old counts.new }
+{
+    if so {
+        counts[place] += 1;
+    }
+}
+
+/// Whether a triple that begins at `v` passes a test that asks for its label. The target is read only where all else is so.
+fn passes<G: ReadGraph<L>, L: Ledger>(
     graph: &G,
-    pattern: &Pattern,
-    edge: &PatternEdge,
+    plan: &Plan<'_>,
+    test: &TripleTest,
     v: u32,
     fitted: &[bool],
     turn: &Turn<'_>,
     steps: &mut Steps<L>,
 ) -> bool
-    requires ends { HasEnds (vertex_count pattern.now) edge.now }
+    requires stands { IsTestIn (G.label_text graph.now) plan.now.sets.items test.now }
+    requires asks { test.now.label ≡ Some turn.now.number }
+    requires number { G.label_text graph.now turn.now.number ≡ Some turn.now.label.now }
     requires end { IsTrue (has_vertex (G.graph graph.now) turn.now.other) }
-    requires fits { fitted.now ≡ fits_of pattern.now (G.graph graph.now) v }
+    requires fits { AreFits (G.graph graph.now) plan.now.sets.items v fitted.now }
     ensures { let triple : Triple = record { src = v; label = turn.now.label.now; dst = turn.now.other } in
-        result ≡ fits_edge pattern.now edge.now (G.graph graph.now) triple }
+        result ≡ passes (G.label_text graph.now) (G.graph graph.now) plan.now.sets.items test.now triple }
 {
-    edge.label == *turn.label
-        && fitted[edge.tail]
-        && (edge.tail != edge.head || v == turn.other)
-        && graph.fits(turn.other, pattern.labels(edge.head), steps)
+    fitted[test.tail]
+        && test.allows(v, turn.other)
+        && graph.fits(turn.other, plan.sets[test.head].labels, steps)
 }

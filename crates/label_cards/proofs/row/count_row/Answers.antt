@@ -1,9 +1,8 @@
 use Rattle.std.proofs.Common.{ℕ, arith, cond}
 use Rattle.std.proofs.lemmas.List.Sorted.{sum_by-IsPermutation, length_permutation}
-use Rattle.flux_model.specs.Pattern.{fits_edge}
-use Rattle.flux_model.specs.Tree.{edge_at}
 use Rattle.flux_model.specs.declared.graph.Triple.{Triple}
 use Rattle.graph_traits.specs.Rows.{triples_from}
+use Rattle.label_cards.specs.Plans.{passes_at}
 use Rattle.label_cards.proofs.row.count_row.Goals as goal
 
 pub count_turn-requires-clause-room : goal.count_turn-requires-clause-room
@@ -16,8 +15,7 @@ pub returns : goal.returns
 returns g c =
     let graph = g.G.HoldGraph.graph c.args.graph.now in
     let row = g.G.HoldGraph.outs_from c.args.graph.now c.args.v in
-    let q = c.args.pattern.now in
     λ k h.
-    let fits : Triple → ℕ = λ t. cond (fits_edge q (edge_at q k) graph t) 1 0 in
-    let whole = sum_by-IsPermutation fits (row c.first-at.result) (triples_from graph c.args.v) c.first-at.ensures.all in
+    let passes : Triple → ℕ = λ t. cond (passes_at (g.G.HoldGraph.label_text c.args.graph.now) graph c.args.plan.now k t) 1 0 in
+    let whole = sum_by-IsPermutation passes (row c.first-at.result) (triples_from graph c.args.v) c.first-at.ensures.all in
     omega (arith, whole, rw c.in_default.ensures.turn at (c.loop-turn.invariant.counted k (omega (arith, h, c.loop-turn.auto.counts))))

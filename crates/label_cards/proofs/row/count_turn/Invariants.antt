@@ -1,13 +1,12 @@
-use Rattle.std.proofs.Common.{◌≡◌, ℕ, ◌+◌, ◌<◌, ◌≤◌, slice_index}
+use Rattle.std.proofs.Common.{◌≡◌, ℕ, ◌+◌, ◌<◌, ◌==◌, ◌&&◌, length, slice_index, take}
+use Rattle.std.specs.Prelude.{count_by}
 use Rattle.flux_model.specs.declared.graph.Triple.{Triple}
-use Rattle.label_cards.specs.Counted.{triple_adds}
+use Rattle.label_cards.specs.Plans.{passes_at}
 use Rattle.label_cards.proofs.row.count_turn.Given as goal
 
--- the counts before k have grown, the others not yet
-abbrev pub invariant-loop-k : goal.invariant-loop-k
-invariant-loop-k g l =
+-- each count has grown as often as its test stands among the places so far, if the triple passes it
+abbrev pub invariant-loop-place : goal.invariant-loop-place
+invariant-loop-place g l =
     let triple : Triple = record { src = l.v; label = l.turn.label.now; dst = l.turn.other } in
-    record {
-      grown : (j : ℕ) → j < l.k → slice_index l.counts j ≡ slice_index l.fn.counts j + triple_adds l.pattern (g.G.HoldGraph.graph l.graph) triple j;
-      rest : (j : ℕ) → l.k ≤ j → slice_index l.counts j ≡ slice_index l.fn.counts j;
-    }
+    (p : ℕ) → p < length l.counts → slice_index l.counts p ≡ slice_index l.fn.counts p
+    + count_by (λ x. x == p && passes_at (g.G.HoldGraph.label_text l.graph) (g.G.HoldGraph.graph l.graph) l.plan p triple) (take l.place-index l.places)

@@ -1,0 +1,12 @@
+use Rattle.std.proofs.Common.{◌≡◌, take}
+use Rattle.label_cards.specs.Plans.{AreTestsKept, AreTestsOf, IsPlan}
+use Rattle.label_cards.proofs.plan.Plan.test_places.Given as goal
+
+-- the tests of the edges before k have their places, and no test has moved
+abbrev pub invariant-loop-k : goal.invariant-loop-k
+invariant-loop-k g l = record {
+  plan : IsPlan (g.G.HoldGraph.label_text l.graph) l.self;
+  kept : AreTestsKept l.fn.self.tests.items l.self.tests.items;
+  sets : l.self.sets ≡ l.fn.self.sets;
+  places : AreTestsOf (g.G.HoldGraph.label_text l.graph) (g.G.HoldGraph.graph l.graph) l.self.tests.items l.sets (take l.k l.pattern.edges) l.places.items;
+}

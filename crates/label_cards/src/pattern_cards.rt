@@ -1,0 +1,51 @@
+//! The cards of one pattern, and of all patterns of a run.
+ghost use Rattle.std.specs.Prelude.{◌≡◌, map, IfOk};
+ghost use Rattle.flux_model.specs.Tree.{cards};
+
+use crate::pass::Counts;
+use crate::plan::Plan;
+use flux_model::{Cards, Ledger, Pattern, Patterns, Steps};
+use graph_traits::{HoldGraph, ReadGraph};
+use std::alloc::{AllocError, Global};
+
+/// How many triples of the graph fit each edge of the pattern, and how many of its vertices fit each vertex of the pattern.
+///
+/// `AllocError` comes where memory is wanting. The graph is not copied: only what the pattern asks for and the counts take memory.
+pub fn cards<G: ReadGraph<L>, L: Ledger>(
+    alloc: Global,
+    graph: &G,
+    pattern: &Pattern,
+    steps: &mut Steps<L>,
+) -> Result<Cards, AllocError>
+    ensures { IfOk result (λ answer. answer ≡ cards pattern.now (G.graph graph.now)) }
+{
+    let mut plan = Plan::new(alloc);
+    let places = plan.add(alloc, graph, pattern)?;
+    let counts = Counts::of(alloc, graph, &plan, steps)?;
+    let found = counts.cards(alloc, &places)?;
+    Ok(found)
+}
+
+/// The cards of each pattern, in the order of the patterns.
+///
+/// The vertices of the graph and their out rows are read once for all patterns together. `AllocError` comes where memory is wanting.
+pub fn all_cards<G: ReadGraph<L>, L: Ledger>(
+    alloc: Global,
+    graph: &G,
+    patterns: &Patterns,
+    steps: &mut Steps<L>,
+) -> Result<Vec<Cards>, AllocError>
+    ensures { IfOk result (λ answers. answers.items ≡ map (λ q. cards q (G.graph graph.now)) patterns.now) }
+{
+    let mut plan = Plan::new(alloc);
+    let mut places = Vec::new(alloc);
+    for k in 0..patterns.count() {
+        places.push(plan.add(alloc, graph, patterns.get(k))?)?;
+    }
+    let counts = Counts::of(alloc, graph, &plan, steps)?;
+    let mut all = Vec::new(alloc);
+    for i in 0..places.len() {
+        all.push(counts.cards(alloc, &places[i])?)?;
+    }
+    Ok(all)
+}
