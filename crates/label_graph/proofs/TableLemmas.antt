@@ -7,11 +7,10 @@ use Rattle.std.proofs.lemmas.Bool.{cases_eq, cases_lt}
 use Rattle.std.proofs.lemmas.Option.{same_Some, none-some}
 use Rattle.std.proofs.lemmas.List.{get_or-set_same, get_or-set_other, get_or_past}
 use Rattle.label_graph.specs.declared.names.Name.{Name}
-use Rattle.label_graph.specs.Names.{slot, text_at, IsTable}
+use Rattle.label_graph.specs.Names.{slot, text_at, IsTable, IsUnknown}
 use Rattle.label_graph.specs.Table.{IsInside, number_of}
 use Rattle.label_graph.proofs.InverseLemmas.{CanTell, added, removed}
 use Rattle.label_graph.proofs.LinkLemmas.{same_inverse}
-use Rattle.label_graph.proofs.PlaceLemmas.{option_map_some}
 
 text_of : (names : List (Option Name)) (n : ℕ) (x : Name) → slot names n ≡ Some x → text_at names n ≡ Some x.text
 text_of names n x e = ap (option_map (λ (y : Name). y.text)) e
@@ -100,11 +99,15 @@ added_inside numbers numbers' names names' n x h free here positive unknown othe
       (λ d. h.used q z (sym (others q d) ∙ e)) (cases_eq q n);
 }
 
--- the number that is found for a text stands for a name of that text
-pub found_slot : (numbers : List (List ℕ × ℕ)) (names : List (Option Name)) (text : List ℕ) (n : ℕ) → IsInside numbers names →
-    number_of numbers text ≡ Some n → (x : Name) × (slot names n ≡ Some x) × (x.text ≡ text)
-found_slot numbers names text n h e = option_map_some (λ (y : Name). y.text) (slot names n) text (h.inverse.back text n e)
-
 -- names of the same text and uses are the same
 pub same_name : (a b : List ℕ) (m n : ℕ) → a ≡ b → m ≡ n → ◌≡◌ {A = Name} (record { text = a; uses = m }) (record { text = b; uses = n })
 same_name a b m n p q = cc
+
+-- a text that no number stands for is not in the look-up
+pub unknown_number : (numbers : List (List ℕ × ℕ)) (names : List (Option Name)) (text : List ℕ) → IsInside numbers names → IsUnknown names text →
+    number_of numbers text ≡ None
+unknown_number numbers names text h unknown = by (number_of numbers text) refl
+  where
+    by : (o : Option ℕ) → number_of numbers text ≡ o → number_of numbers text ≡ None
+    by None e = e
+    by (Some n) e = absurd (unknown n (h.inverse.back text n e))

@@ -1,9 +1,10 @@
 -- Rows, and where a triple stands in them.
 use Rattle.std.specs.Prelude.{◌≡◌, ◌≢◌, ℕ, ◌+◌, ◌<◌, ◌&&◌, ◌==◌, nat_eq, Bool, List, [], Option, Some, None, option_map, cond}
 use Rattle.std.specs.Prelude.{slice_get, length, IsSomeAnd, vec_len, vec_capacity}
-use Rattle.std.specs.Map.{lookup}
+use Rattle.std.specs.Map.{lookup, keys_of}
 use Rattle.flux_model.specs.declared.graph.Vertex.{Vertex}
 use Rattle.label_graph.specs.declared.link.Link.{Link}
+use Rattle.label_graph.specs.declared.link.Member.{Member}
 use Rattle.label_graph.specs.declared.link.RowEntry.{RowEntry}
 use Rattle.label_graph.specs.declared.link.Places.{Places}
 use Rattle.label_graph.specs.declared.link.Node.{Node}
@@ -85,6 +86,10 @@ abbrev pub HasRoomIn : List (ℕ × Node) → ℕ → Type 0
 HasRoomIn nodes v = IsSomeAnd (lookup (nat_eq v) nodes) (λ p. vec_len p.ins < vec_capacity p.ins)
 
 -- ---- vertices
+
+-- the vertex stands where it says
+abbrev pub IsAt : List (ℕ × Node) → Member → Type 0
+IsAt nodes v = slice_get (keys_of nodes) v.index ≡ Some v.id
 
 -- the vertex of a node
 abbrev pub vertex_of : ℕ × Node → Vertex

@@ -9,6 +9,13 @@ pub struct Link {
     pub dst: u32,
 }
 
+/// A vertex: its id, and where it stands among the vertices.
+#[derive(Clone, Copy, Debug)]
+pub struct Member {
+    pub id: u32,
+    pub index: usize,
+}
+
 /// What a row has of a triple: its label and its other end.
 #[derive(Clone, Copy, PartialEq, Eq, Debug)]
 pub struct RowEntry {

@@ -1,23 +1,29 @@
 //! A triple in both of its rows.
-ghost use Rattle.std.specs.Prelude.{map, ◌≡◌, ◌≢◌, ℕ, ◌∷◌, None, Some, IsSome, is_some, nat_eq, OnOk, OnErr, IsPermutation};
+ghost use Rattle.std.specs.Prelude.{map, ◌≡◌, ℕ, ◌∷◌, None, Some, is_some, OnOk, OnErr, IsPermutation};
 ghost use Rattle.std.specs.Bool.{OnTrue, OnFalse};
 ghost use Rattle.std.specs.Prelude.{false};
 ghost use Rattle.std.specs.List.{list_any};
 ghost use Rattle.std.specs.Map.{lookup, keys_of};
-ghost use Rattle.label_graph.specs.Places.{outs, ins, vertex_of, link_eq, ArePlaced};
+ghost use Rattle.label_graph.specs.Places.{outs, ins, vertex_of, link_eq, IsAt, ArePlaced};
 ghost use Rattle.label_graph.specs.declared.link.Link.{Link};
 
 use crate::hashed::{Nodes, Standing};
-use crate::link::{Link, Node, Places, RowEntry};
+use crate::link::{Link, Member, Node, Places, RowEntry};
 use crate::row::{push_in, push_out, reserve_in, reserve_out};
 use crate::step::{leave_in, leave_out};
 use std::alloc::AllocError;
 
-/// Puts a triple into both rows.
-pub fn join(nodes: &mut Nodes, places: &mut Standing, k: Link) -> Result<(), AllocError>
+/// Puts a triple into both rows. Its ends stand at these indexes among the vertices.
+pub fn join(
+    nodes: &mut Nodes,
+    places: &mut Standing,
+    k: Link,
+    src: usize,
+    dst: usize,
+) -> Result<(), AllocError>
     requires placed { ArePlaced nodes.old.entries places.old.entries }
-    requires src { IsSome (lookup (nat_eq k.src) nodes.old.entries) }
-    requires dst { IsSome (lookup (nat_eq k.dst) nodes.old.entries) }
+    requires src { IsAt nodes.old.entries (record { id = k.src; index = src }) }
+    requires dst { IsAt nodes.old.entries (record { id = k.dst; index = dst }) }
     requires absent { lookup (link_eq k) places.old.entries ≡ None }
     ensures placed { ArePlaced nodes.new.entries places.new.entries }
     ensures keys { keys_of nodes.new.entries ≡ keys_of nodes.old.entries }
@@ -27,12 +33,20 @@ pub fn join(nodes: &mut Nodes, places: &mut Standing, k: Link) -> Result<(), All
     ensures outs { OnErr result ((v : ℕ) → outs nodes.new.entries v ≡ outs nodes.old.entries v) }
     ensures ins { OnErr result ((v : ℕ) → ins nodes.new.entries v ≡ ins nodes.old.entries v) }
 {
+    let source = Member {
+        id: k.src,
+        index: src,
+    };
+    let target = Member {
+        id: k.dst,
+        index: dst,
+    };
     places.reserve(1)?;
-    reserve_out(nodes, k.src)?;
-    reserve_in(nodes, k.dst)?;
+    reserve_out(nodes, source)?;
+    reserve_in(nodes, target)?;
     let out_at = push_out(
         nodes,
-        k.src,
+        source,
         RowEntry {
             label: k.label,
             other: k.dst,
@@ -40,7 +54,7 @@ pub fn join(nodes: &mut Nodes, places: &mut Standing, k: Link) -> Result<(), All
     );
     let in_at = push_in(
         nodes,
-        k.dst,
+        target,
         RowEntry {
             label: k.label,
             other: k.src,
@@ -52,9 +66,11 @@ pub fn join(nodes: &mut Nodes, places: &mut Standing, k: Link) -> Result<(), All
     }
 }
 
-/// Takes a triple out of both rows, if it is there.
-pub fn part(nodes: &mut Nodes, places: &mut Standing, k: Link) -> bool
+/// Takes a triple out of both rows, if it is there. Its ends stand at these indexes among the vertices.
+pub fn part(nodes: &mut Nodes, places: &mut Standing, k: Link, src: usize, dst: usize) -> bool
     requires placed { ArePlaced nodes.old.entries places.old.entries }
+    requires src { IsAt nodes.old.entries (record { id = k.src; index = src }) }
+    requires dst { IsAt nodes.old.entries (record { id = k.dst; index = dst }) }
     ensures placed { ArePlaced nodes.new.entries places.new.entries }
     ensures keys { keys_of nodes.new.entries ≡ keys_of nodes.old.entries }
     ensures vertices { map vertex_of nodes.new.entries ≡ map vertex_of nodes.old.entries }
@@ -67,7 +83,7 @@ pub fn part(nodes: &mut Nodes, places: &mut Standing, k: Link) -> bool
     let Some(at) = places.remove(&k) else {
         return false;
     };
-    leave_out(nodes, places, k, at.out_at);
-    leave_in(nodes, places, k, at.in_at);
+    leave_out(nodes, places, k, src, at.out_at);
+    leave_in(nodes, places, k, dst, at.in_at);
     true
 }

@@ -81,7 +81,19 @@ impl Names {
         ensures others { IfOk result (λ n. (q : ℕ) → q ≢ n → slot self.new q ≡ slot self.old q) }
         ensures err { OnErr result (self.new ≡ self.old) }
     {
-        match self.numbers.get(text).copied() {
+        let known = self.find(text);
+        self.raise_found(text, known)
+    }
+
+    /// As `raise`, where `find` has just answered `known` for the name.
+    pub fn raise_found(&mut self, text: &Text, known: Option<u32>) -> Result<u32, AllocError>
+        requires { MatchOption known (IsUnknown self.old text.now) (λ n. text_at self.old n ≡ Some text.now) }
+        ensures here { IfOk result (λ n. slot self.new n ≡ Some (record { text = text.now; uses = uses_of (slot self.old n) + 1 })) }
+        ensures was { IfOk result (λ n. MatchOption (slot self.old n) (IsUnknown self.old text.now) (λ x. x.text ≡ text.now)) }
+        ensures others { IfOk result (λ n. (q : ℕ) → q ≢ n → slot self.new q ≡ slot self.old q) }
+        ensures err { OnErr result (self.new ≡ self.old) }
+    {
+        match known {
             Some(n) => {
                 let name = self.slots.get_mut(n as usize).unwrap();
                 let Some(uses) = name.uses.checked_add(1) else {

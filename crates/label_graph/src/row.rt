@@ -1,11 +1,11 @@
 //! Changes of one row.
-ghost use Rattle.std.specs.Prelude.{map, ◌≡◌, ◌≢◌, ℕ, ◌+◌, ◌-◌, ◌<◌, ◌++◌, ◌∷◌, [], None, Some, IsSome, MatchOption};
-ghost use Rattle.std.specs.Prelude.{slice_get, nat_eq, length, OnOk, OnErr, IfSome};
-ghost use Rattle.std.specs.Map.{lookup, keys_of};
-ghost use Rattle.label_graph.specs.Places.{outs, ins, vertex_of, IsPulled, HasRoomOut, HasRoomIn};
+ghost use Rattle.std.specs.Prelude.{map, ◌≡◌, ◌≢◌, ℕ, ◌+◌, ◌-◌, ◌<◌, ◌++◌, ◌∷◌, []};
+ghost use Rattle.std.specs.Prelude.{slice_get, length, OnOk};
+ghost use Rattle.std.specs.Map.{keys_of};
+ghost use Rattle.label_graph.specs.Places.{outs, ins, vertex_of, IsAt, IsPulled, HasRoomOut, HasRoomIn};
 
 use crate::hashed::Nodes;
-use crate::link::{Node, RowEntry};
+use crate::link::{Member, Node, RowEntry};
 use std::alloc::AllocError;
 
 /// Takes the entry at this place away and puts the last one there, which is the result if it is another.
@@ -19,32 +19,31 @@ fn pull(row: &mut Vec<RowEntry>, i: usize) -> Option<RowEntry>
 }
 
 /// Makes room for one more entry in an out row.
-#[tactic(auto, using(crate::proofs::NodeLemmas::vertices_kept))]
-pub fn reserve_out(nodes: &mut Nodes, v: u32) -> Result<(), AllocError>
-    requires { IsSome (lookup (nat_eq v) nodes.old.entries) }
+pub fn reserve_out(nodes: &mut Nodes, v: Member) -> Result<(), AllocError>
+    requires { IsAt nodes.old.entries v }
     ensures outs { (q : ℕ) → outs nodes.new.entries q ≡ outs nodes.old.entries q }
     ensures ins { (q : ℕ) → ins nodes.new.entries q ≡ ins nodes.old.entries q }
     ensures vertices { map vertex_of nodes.new.entries ≡ map vertex_of nodes.old.entries }
     ensures keys { keys_of nodes.new.entries ≡ keys_of nodes.old.entries }
-    ensures room { OnOk result (HasRoomOut nodes.new.entries v) }
+    ensures room { OnOk result (HasRoomOut nodes.new.entries v.id) }
 {
-    let node = nodes.get_mut(&v).unwrap();
+    let node = nodes.get_index_mut(v.index).unwrap();
     node.outs.reserve(1)
 }
 
 /// Puts an entry at the end of an out row.
-#[tactic(auto, using(crate::proofs::NodeLemmas::vertices_kept))]
-pub fn push_out(nodes: &mut Nodes, v: u32, entry: RowEntry) -> usize
-    requires { HasRoomOut nodes.old.entries v }
-    ensures row { outs nodes.new.entries v ≡ outs nodes.old.entries v ++ entry ∷ [] }
-    ensures others { (q : ℕ) → q ≢ v → outs nodes.new.entries q ≡ outs nodes.old.entries q }
+pub fn push_out(nodes: &mut Nodes, v: Member, entry: RowEntry) -> usize
+    requires at { IsAt nodes.old.entries v }
+    requires room { HasRoomOut nodes.old.entries v.id }
+    ensures row { outs nodes.new.entries v.id ≡ outs nodes.old.entries v.id ++ entry ∷ [] }
+    ensures others { (q : ℕ) → q ≢ v.id → outs nodes.new.entries q ≡ outs nodes.old.entries q }
     ensures ins { (q : ℕ) → ins nodes.new.entries q ≡ ins nodes.old.entries q }
     ensures vertices { map vertex_of nodes.new.entries ≡ map vertex_of nodes.old.entries }
     ensures keys { keys_of nodes.new.entries ≡ keys_of nodes.old.entries }
     ensures keeps { (q : ℕ) → HasRoomIn nodes.old.entries q → HasRoomIn nodes.new.entries q }
-    ensures place { result ≡ length (outs nodes.old.entries v) }
+    ensures place { result ≡ length (outs nodes.old.entries v.id) }
 {
-    let node = nodes.get_mut(&v).unwrap();
+    let node = nodes.get_index_mut(v.index).unwrap();
     let at = node.outs.len();
     match node.outs.push(entry) {
         Ok(()) => at,
@@ -53,48 +52,46 @@ pub fn push_out(nodes: &mut Nodes, v: u32, entry: RowEntry) -> usize
 }
 
 /// Takes an entry of an out row away, and moves the last one there.
-#[tactic(auto, using(crate::proofs::NodeLemmas::vertices_kept))]
-pub fn pull_out(nodes: &mut Nodes, v: u32, i: usize) -> Option<RowEntry>
-    requires stands { IsSome (lookup (nat_eq v) nodes.old.entries) }
-    requires within { i < length (outs nodes.old.entries v) }
-    ensures row { IsPulled i (outs nodes.old.entries v) (outs nodes.new.entries v) }
-    ensures moved { result ≡ slice_get (outs nodes.new.entries v) i }
-    ensures others { (q : ℕ) → q ≢ v → outs nodes.new.entries q ≡ outs nodes.old.entries q }
+pub fn pull_out(nodes: &mut Nodes, v: Member, i: usize) -> Option<RowEntry>
+    requires at { IsAt nodes.old.entries v }
+    requires within { i < length (outs nodes.old.entries v.id) }
+    ensures row { IsPulled i (outs nodes.old.entries v.id) (outs nodes.new.entries v.id) }
+    ensures moved { result ≡ slice_get (outs nodes.new.entries v.id) i }
+    ensures others { (q : ℕ) → q ≢ v.id → outs nodes.new.entries q ≡ outs nodes.old.entries q }
     ensures ins { (q : ℕ) → ins nodes.new.entries q ≡ ins nodes.old.entries q }
     ensures vertices { map vertex_of nodes.new.entries ≡ map vertex_of nodes.old.entries }
     ensures keys { keys_of nodes.new.entries ≡ keys_of nodes.old.entries }
 {
-    let node = nodes.get_mut(&v).unwrap();
+    let node = nodes.get_index_mut(v.index).unwrap();
     pull(&mut node.outs, i)
 }
 
 /// Makes room for one more entry in an in row.
-#[tactic(auto, using(crate::proofs::NodeLemmas::vertices_kept))]
-pub fn reserve_in(nodes: &mut Nodes, v: u32) -> Result<(), AllocError>
-    requires { IsSome (lookup (nat_eq v) nodes.old.entries) }
+pub fn reserve_in(nodes: &mut Nodes, v: Member) -> Result<(), AllocError>
+    requires { IsAt nodes.old.entries v }
     ensures ins { (q : ℕ) → ins nodes.new.entries q ≡ ins nodes.old.entries q }
     ensures outs { (q : ℕ) → outs nodes.new.entries q ≡ outs nodes.old.entries q }
     ensures vertices { map vertex_of nodes.new.entries ≡ map vertex_of nodes.old.entries }
     ensures keys { keys_of nodes.new.entries ≡ keys_of nodes.old.entries }
     ensures keeps { (q : ℕ) → HasRoomOut nodes.old.entries q → HasRoomOut nodes.new.entries q }
-    ensures room { OnOk result (HasRoomIn nodes.new.entries v) }
+    ensures room { OnOk result (HasRoomIn nodes.new.entries v.id) }
 {
-    let node = nodes.get_mut(&v).unwrap();
+    let node = nodes.get_index_mut(v.index).unwrap();
     node.ins.reserve(1)
 }
 
 /// Puts an entry at the end of an in row.
-#[tactic(auto, using(crate::proofs::NodeLemmas::vertices_kept))]
-pub fn push_in(nodes: &mut Nodes, v: u32, entry: RowEntry) -> usize
-    requires { HasRoomIn nodes.old.entries v }
-    ensures row { ins nodes.new.entries v ≡ ins nodes.old.entries v ++ entry ∷ [] }
-    ensures others { (q : ℕ) → q ≢ v → ins nodes.new.entries q ≡ ins nodes.old.entries q }
+pub fn push_in(nodes: &mut Nodes, v: Member, entry: RowEntry) -> usize
+    requires at { IsAt nodes.old.entries v }
+    requires room { HasRoomIn nodes.old.entries v.id }
+    ensures row { ins nodes.new.entries v.id ≡ ins nodes.old.entries v.id ++ entry ∷ [] }
+    ensures others { (q : ℕ) → q ≢ v.id → ins nodes.new.entries q ≡ ins nodes.old.entries q }
     ensures outs { (q : ℕ) → outs nodes.new.entries q ≡ outs nodes.old.entries q }
     ensures vertices { map vertex_of nodes.new.entries ≡ map vertex_of nodes.old.entries }
     ensures keys { keys_of nodes.new.entries ≡ keys_of nodes.old.entries }
-    ensures place { result ≡ length (ins nodes.old.entries v) }
+    ensures place { result ≡ length (ins nodes.old.entries v.id) }
 {
-    let node = nodes.get_mut(&v).unwrap();
+    let node = nodes.get_index_mut(v.index).unwrap();
     let at = node.ins.len();
     match node.ins.push(entry) {
         Ok(()) => at,
@@ -103,17 +100,16 @@ pub fn push_in(nodes: &mut Nodes, v: u32, entry: RowEntry) -> usize
 }
 
 /// Takes an entry of an in row away, and moves the last one there.
-#[tactic(auto, using(crate::proofs::NodeLemmas::vertices_kept))]
-pub fn pull_in(nodes: &mut Nodes, v: u32, i: usize) -> Option<RowEntry>
-    requires stands { IsSome (lookup (nat_eq v) nodes.old.entries) }
-    requires within { i < length (ins nodes.old.entries v) }
-    ensures row { IsPulled i (ins nodes.old.entries v) (ins nodes.new.entries v) }
-    ensures moved { result ≡ slice_get (ins nodes.new.entries v) i }
-    ensures others { (q : ℕ) → q ≢ v → ins nodes.new.entries q ≡ ins nodes.old.entries q }
+pub fn pull_in(nodes: &mut Nodes, v: Member, i: usize) -> Option<RowEntry>
+    requires at { IsAt nodes.old.entries v }
+    requires within { i < length (ins nodes.old.entries v.id) }
+    ensures row { IsPulled i (ins nodes.old.entries v.id) (ins nodes.new.entries v.id) }
+    ensures moved { result ≡ slice_get (ins nodes.new.entries v.id) i }
+    ensures others { (q : ℕ) → q ≢ v.id → ins nodes.new.entries q ≡ ins nodes.old.entries q }
     ensures outs { (q : ℕ) → outs nodes.new.entries q ≡ outs nodes.old.entries q }
     ensures vertices { map vertex_of nodes.new.entries ≡ map vertex_of nodes.old.entries }
     ensures keys { keys_of nodes.new.entries ≡ keys_of nodes.old.entries }
 {
-    let node = nodes.get_mut(&v).unwrap();
+    let node = nodes.get_index_mut(v.index).unwrap();
     pull(&mut node.ins, i)
 }

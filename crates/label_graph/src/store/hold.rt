@@ -8,6 +8,7 @@ ghost use Rattle.label_graph.specs.Meaning.{graph_in, outs_in, ins_in, IsOfVerte
 
 use crate::link::Node;
 use crate::store::LabelGraph;
+use crate::store::vertices::index_of;
 use flux_model::Text;
 use graph_traits::{HoldGraph, Spot};
 
@@ -33,7 +34,7 @@ impl LabelGraph {
         requires { IsTrue (has_vertex (graph_in self.now) v) }
         ensures { slice_get (keys_of self.now.nodes.entries) result ≡ Some v }
     {
-        self.nodes.get_index_of(&v).unwrap()
+        index_of(&self.nodes, v).unwrap()
     }
 }
 

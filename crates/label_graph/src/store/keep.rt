@@ -6,7 +6,7 @@ use crate::hashed::Standing;
 use crate::link::{Link, Places};
 use crate::links::{join, part};
 use crate::store::LabelGraph;
-use crate::store::vertices::{bare_node, has_entries, lacks_room, put_node};
+use crate::store::vertices::{bare_node, has_entries, index_of, lacks_room, put_node};
 use flux_model::{Code, Labels, Triple};
 use graph_traits::KeepGraph;
 use std::alloc::AllocError;
@@ -48,12 +48,12 @@ impl KeepGraph for LabelGraph {
     }
 
     fn insert(&mut self, triple: &Triple) -> Result<Result<(), Code>, AllocError> {
-        if !self.nodes.contains_key(&triple.src) {
+        let Some(src) = index_of(&self.nodes, triple.src) else {
             return Ok(Err(Code::NoVertex));
-        }
-        if !self.nodes.contains_key(&triple.dst) {
+        };
+        let Some(dst) = index_of(&self.nodes, triple.dst) else {
             return Ok(Err(Code::NoVertex));
-        }
+        };
         let known = self.names.find(&triple.label);
         if stands(&self.places, known, triple.src, triple.dst) {
             return Ok(Err(Code::Exists));
@@ -69,13 +69,13 @@ impl KeepGraph for LabelGraph {
         }
         // For the proof: the bytes of a label are those of a text.
         let _ = triple.label.bytes();
-        let label = self.names.raise(&triple.label)?;
+        let label = self.names.raise_found(&triple.label, known)?;
         let link = Link {
             src: triple.src,
             label,
             dst: triple.dst,
         };
-        match join(&mut self.nodes, &mut self.places, link) {
+        match join(&mut self.nodes, &mut self.places, link, src, dst) {
             Ok(()) => Ok(Ok(())),
             Err(e) => {
                 self.names.lower(label);
@@ -85,12 +85,12 @@ impl KeepGraph for LabelGraph {
     }
 
     fn remove(&mut self, triple: &Triple) -> Result<(), Code> {
-        if !self.nodes.contains_key(&triple.src) {
+        let Some(src) = index_of(&self.nodes, triple.src) else {
             return Err(Code::NoVertex);
-        }
-        if !self.nodes.contains_key(&triple.dst) {
+        };
+        let Some(dst) = index_of(&self.nodes, triple.dst) else {
             return Err(Code::NoVertex);
-        }
+        };
         let Some(label) = self.names.find(&triple.label) else {
             return Err(Code::Absent);
         };
@@ -99,7 +99,7 @@ impl KeepGraph for LabelGraph {
             label,
             dst: triple.dst,
         };
-        if !part(&mut self.nodes, &mut self.places, link) {
+        if !part(&mut self.nodes, &mut self.places, link, src, dst) {
             return Err(Code::Absent);
         }
         self.names.lower(label);

@@ -1,6 +1,6 @@
 //! What the changes of vertices ask, and a vertex without triples.
-ghost use Rattle.std.specs.Prelude.{◌≡◌, ◌||◌, ◌+◌, ◌<◌, ◌++◌, ◌∷◌, [], ℕ, None, Some, cond, nat_eq, nat_le, nat_lt, length, IsSome, IfOk};
-ghost use Rattle.std.specs.Map.{lookup};
+ghost use Rattle.std.specs.Prelude.{◌≡◌, ◌||◌, ◌+◌, ◌<◌, ◌++◌, ◌∷◌, [], ℕ, None, Some, cond, nat_eq, nat_le, nat_lt, length, slice_get, is_some, IsSome, IfSome, IfOk};
+ghost use Rattle.std.specs.Map.{lookup, keys_of};
 ghost use Rattle.indexmap.specs.IndexMap.{spare};
 ghost use Rattle.label_graph.specs.Places.{outs, ins};
 
@@ -18,6 +18,14 @@ pub fn lacks_room(limit: u64, count: usize, name_limit: u64, names: usize, more:
         None => true,
     };
     limit <= count as u64 || many
+}
+
+/// Where `v` stands among the vertices, if it does.
+pub fn index_of(nodes: &Nodes, v: u32) -> Option<usize>
+    ensures at { IfSome result (λ i. slice_get (keys_of nodes.now.entries) i ≡ Some v) }
+    ensures stands { is_some (lookup (nat_eq v) nodes.now.entries) ≡ is_some result }
+{
+    nodes.get_index_of(&v)
 }
 
 /// Whether a row of the vertex has an entry.

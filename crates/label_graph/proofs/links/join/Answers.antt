@@ -1,5 +1,5 @@
 use Rattle.std.proofs.Common.{◌≡◌, ℕ, None, Some, ap, ◌∙◌, List, [], ◌∷◌, ◌++◌, cond, length}
-use Rattle.std.specs.Prelude.{option_map}
+use Rattle.std.specs.Prelude.{option_map, slice_get}
 use Rattle.std.specs.Map.{lookup, keys_of}
 use Rattle.std.proofs.lemmas.List.Sorted.{IsPermutation-trans, IsPermutation-cons, IsPermutation-map}
 use Rattle.std.proofs.lemmas.Option.{MatchOption-at_none}
@@ -10,8 +10,6 @@ use Rattle.label_graph.specs.declared.link.Places.{Places}
 use Rattle.label_graph.specs.Places.{link_eq, outs, ins, out_link, in_link, out_place, in_place, ArePlaced}
 use Rattle.label_graph.proofs.LinkLemmas.{same_placed, set_part}
 use Rattle.label_graph.proofs.PlaceLemmas.{pushed_placed}
-use Rattle.std.specs.Prelude.{nat_eq}
-use Rattle.label_graph.proofs.NodeLemmas.{stands_by_keys}
 use Rattle.label_graph.proofs.links.join.Goals as goal
 
 pub returns-in_err-reserve_out-clause-placed : goal.returns-in_err-reserve_out-clause-placed
@@ -35,7 +33,13 @@ returns-in_err-reserve_in-clause-same c =
     rw p.1 (IsPermutation-map (λ (e : Link × Places). e.0) c.args.places.now.entries c.reserve.new.self.entries c.reserve.ensures.entries.0)
 
 pub reserve_in-requires : goal.reserve_in-requires
-reserve_in-requires c = stands_by_keys (nat_eq c.args.k.dst) c.args.nodes.now.entries c.reserve_out.new.nodes.entries c.reserve_out.ensures.keys c.requires.dst
+reserve_in-requires c = ap (λ ks. slice_get ks c.args.dst) c.reserve_out.ensures.keys ∙ c.requires.dst
+
+pub push_out-out_at-requires-clause-at : goal.push_out-out_at-requires-clause-at
+push_out-out_at-requires-clause-at c = ap (λ ks. slice_get ks c.args.src) (c.reserve_in.ensures.keys ∙ c.reserve_out.ensures.keys) ∙ c.requires.src
+
+pub push_in-in_at-requires-clause-at : goal.push_in-in_at-requires-clause-at
+push_in-in_at-requires-clause-at c = ap (λ ks. slice_get ks c.args.dst) (c.push_out-out_at.ensures.keys ∙ (c.reserve_in.ensures.keys ∙ c.reserve_out.ensures.keys)) ∙ c.requires.dst
 
 pub returns-clause-joined : goal.returns-clause-joined
 returns-clause-joined c =

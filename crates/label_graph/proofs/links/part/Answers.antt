@@ -1,5 +1,5 @@
 use Rattle.std.proofs.Common.{◌≡◌, Some, refl, sym, ap, ◌∙◌, subst, List, ◌∷◌, cond, false}
-use Rattle.std.specs.Prelude.{IsPermutation, is_some}
+use Rattle.std.specs.Prelude.{IsPermutation, is_some, slice_get}
 use Rattle.std.specs.List.{list_any}
 use Rattle.std.proofs.lemmas.Map.Made.{is_some-lookup}
 use Rattle.std.specs.Map.{lookup, keys_of, remove_entry}
@@ -17,6 +17,9 @@ leave_out-requires-clause-placed c =
     same_inverse (link_at out_link (outs c.args.nodes.now.entries)) (link_at out_link (outs c.args.nodes.now.entries)) (out_place c.args.places.now.entries)
     (λ q. cond (link_eq c.args.k q) (Some (c.args.k.src, c.in-Some.at.out_at)) (out_place c.remove.new.self.entries q))
     (λ a. refl) (restored_part (λ q p. (q.src, p.out_at)) c.args.places.now.entries c.remove.new.self.entries c.args.k c.in-Some.at was c.in-Some.ensures.updates.0) c.requires.placed.outs
+
+pub leave_in-requires-clause-dst : goal.leave_in-requires-clause-dst
+leave_in-requires-clause-dst c = ap (λ ks. slice_get ks c.args.dst) c.leave_out.ensures.keys ∙ c.requires.dst
 
 pub leave_in-requires-clause-placed : goal.leave_in-requires-clause-placed
 leave_in-requires-clause-placed c =

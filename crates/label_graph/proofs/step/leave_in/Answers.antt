@@ -4,14 +4,10 @@ use Rattle.label_graph.specs.declared.link.Link.{Link}
 use Rattle.label_graph.specs.declared.link.Places.{Places}
 use Rattle.label_graph.specs.Places.{ins, link_eq, in_link, in_place}
 use Rattle.label_graph.proofs.PlaceLemmas.{pulled_within, IsSome-mapped, last_left, moved_left, moved_stands}
-use Rattle.label_graph.proofs.NodeLemmas.{stands_in}
 use Rattle.label_graph.proofs.step.leave_in.Goals as goal
 
 pub pull_in-requires-clause-within : goal.pull_in-requires-clause-within
 pull_in-requires-clause-within c = pulled_within in_link (ins c.args.nodes.now.entries) c.args.k.dst c.args.at c.args.k (in_place c.args.places.now.entries) c.requires.placed
-
-pub pull_in-requires-clause-stands : goal.pull_in-requires-clause-stands
-pull_in-requires-clause-stands c = stands_in _ c.args.at (pulled_within in_link (ins c.args.nodes.now.entries) c.args.k.dst c.args.at c.args.k (in_place c.args.places.now.entries) c.requires.placed)
 
 pub set_in-requires : goal.set_in-requires
 set_in-requires c =

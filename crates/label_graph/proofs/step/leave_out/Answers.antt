@@ -4,14 +4,10 @@ use Rattle.label_graph.specs.declared.link.Link.{Link}
 use Rattle.label_graph.specs.declared.link.Places.{Places}
 use Rattle.label_graph.specs.Places.{outs, link_eq, out_link, out_place}
 use Rattle.label_graph.proofs.PlaceLemmas.{pulled_within, IsSome-mapped, last_left, moved_left, moved_stands}
-use Rattle.label_graph.proofs.NodeLemmas.{stands_out}
 use Rattle.label_graph.proofs.step.leave_out.Goals as goal
 
 pub pull_out-requires-clause-within : goal.pull_out-requires-clause-within
 pull_out-requires-clause-within c = pulled_within out_link (outs c.args.nodes.now.entries) c.args.k.src c.args.at c.args.k (out_place c.args.places.now.entries) c.requires.placed
-
-pub pull_out-requires-clause-stands : goal.pull_out-requires-clause-stands
-pull_out-requires-clause-stands c = stands_out _ c.args.at (pulled_within out_link (outs c.args.nodes.now.entries) c.args.k.src c.args.at c.args.k (out_place c.args.places.now.entries) c.requires.placed)
 
 pub set_out-requires : goal.set_out-requires
 set_out-requires c =

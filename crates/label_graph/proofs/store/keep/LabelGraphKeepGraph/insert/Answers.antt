@@ -17,27 +17,27 @@ use Rattle.label_graph.proofs.EdgeLemmas.{edge_added}
 use Rattle.label_graph.proofs.HeldLemmas.{held_after}
 use Rattle.label_graph.proofs.store.keep.LabelGraphKeepGraph.insert.Goals as goal
 
-pub returns-then-not-contains_key-clause-refused : goal.returns-then-not-contains_key-clause-refused
-returns-then-not-contains_key-clause-refused c =
+pub returns-in_default-clause-refused : goal.returns-in_default-clause-refused
+returns-in_default-clause-refused c =
     add_edge_apart c.args.self.now.limits (graph_in c.args.self.now) c.args.triple.now
-    (no_src c.args.self.now.names c.args.self.now.nodes.entries (keys_of c.args.self.now.places.entries) c.args.triple.now (sym c.contains_key.ensures ∙ c.if-not-contains_key.true))
+    (no_src c.args.self.now.names c.args.self.now.nodes.entries (keys_of c.args.self.now.places.entries) c.args.triple.now c.in_default.ensures.stands)
 
-pub returns-then-not-contains_key-2-clause-refused : goal.returns-then-not-contains_key-2-clause-refused
-returns-then-not-contains_key-2-clause-refused c =
+pub returns-in_default-index_of-clause-refused : goal.returns-in_default-index_of-clause-refused
+returns-in_default-index_of-clause-refused c =
     add_edge_apart c.args.self.now.limits (graph_in c.args.self.now) c.args.triple.now
-    (no_dst c.args.self.now.names c.args.self.now.nodes.entries (keys_of c.args.self.now.places.entries) c.args.triple.now (sym c.contains_key-2.ensures ∙ c.if-not-contains_key-2.true))
+    (no_dst c.args.self.now.names c.args.self.now.nodes.entries (keys_of c.args.self.now.places.entries) c.args.triple.now c.in_default-index_of.ensures.stands)
 
 pub returns-then-stands-clause-refused : goal.returns-then-stands-clause-refused
 returns-then-stands-clause-refused c =
     add_edge_stands c.args.self.now.limits (graph_in c.args.self.now) c.args.triple.now
-    (both_ends c.args.self.now.names c.args.self.now.nodes.entries (keys_of c.args.self.now.places.entries) c.args.triple.now (sym c.contains_key.ensures ∙ c.if-not-contains_key.false) (sym c.contains_key-2.ensures ∙ c.if-not-contains_key-2.false))
+    (both_ends c.args.self.now.names c.args.self.now.nodes.entries (keys_of c.args.self.now.places.entries) c.args.triple.now c.in-Some.ensures.stands c.in-Some-index_of.ensures.stands)
     (known_triple c.args.self.now.names (map vertex_of c.args.self.now.nodes.entries) c.args.self.now.places.entries c.args.triple.now c.find-known.result c.args.self.now.named c.find-known.ensures.table c.find-known.ensures.found
     ∙ (sym c.stands.ensures ∙ c.if-stands.true))
 
 pub returns-then-is_full-clause-refused : goal.returns-then-is_full-clause-refused
 returns-then-is_full-clause-refused c =
     add_edge_full c.args.self.now.limits (graph_in c.args.self.now) c.args.triple.now
-    (both_ends c.args.self.now.names c.args.self.now.nodes.entries (keys_of c.args.self.now.places.entries) c.args.triple.now (sym c.contains_key.ensures ∙ c.if-not-contains_key.false) (sym c.contains_key-2.ensures ∙ c.if-not-contains_key-2.false))
+    (both_ends c.args.self.now.names c.args.self.now.nodes.entries (keys_of c.args.self.now.places.entries) c.args.triple.now c.in-Some.ensures.stands c.in-Some-index_of.ensures.stands)
     (known_triple c.args.self.now.names (map vertex_of c.args.self.now.nodes.entries) c.args.self.now.places.entries c.args.triple.now c.find-known.result c.args.self.now.named c.find-known.ensures.table c.find-known.ensures.found ∙ (sym c.stands.ensures ∙ c.if-stands.false))
     (full_is c.args.self.now.limits c.args.self.now.names (map vertex_of c.args.self.now.nodes.entries) (keys_of c.args.self.now.places.entries) c.args.triple.now.label c.find-known.result c.len.result c.len-2.result
     c.args.self.now.named c.find-known.ensures.table c.len.ensures.unique c.find-known.ensures.found (c.len.ensures.len ∙ sym (length-keys_of c.args.self.now.places.entries)) c.len-2.ensures.value
@@ -53,15 +53,15 @@ join-requires-clause-absent c =
 pub invariant_of-self-in-Ok : goal.invariant_of-self-in-Ok
 invariant_of-self-in-Ok c =
     let k : Link = record { src = c.args.triple.now.src; label = c.in_ok-label.label; dst = c.args.triple.now.dst } in
-    let P : List Vertex → Type 0 = λ vs. IsNamed c.raise.new.self vs (keys_of c.join.new.places.entries) in
+    let P : List Vertex → Type 0 = λ vs. IsNamed c.raise_found.new.self vs (keys_of c.join.new.places.entries) in
     record {
       placed = c.join.ensures.placed;
-      named = subst P (sym c.join.ensures.vertices) (named_added c.args.self.now.names c.raise.new.self (map vertex_of c.args.self.now.nodes.entries) (keys_of c.args.self.now.places.entries) (keys_of c.join.new.places.entries) k c.args.triple.now.label
+      named = subst P (sym c.join.ensures.vertices) (named_added c.args.self.now.names c.raise_found.new.self (map vertex_of c.args.self.now.nodes.entries) (keys_of c.args.self.now.places.entries) (keys_of c.join.new.places.entries) k c.args.triple.now.label
           c.args.self.now.named c.find-known.ensures.table c.in_ok-label.ensures.was c.in_ok-label.ensures.here c.in_ok-label.ensures.others c.in-Ok.ensures.joined);
-      held = held_after c.args.self.now.limits (graph_in c.args.self.now) (kept_graph c.raise.new.self (map vertex_of c.join.new.nodes.entries) (keys_of c.join.new.places.entries)) (AddEdge c.args.triple.now) c.args.self.now.held c.bytes.ensures.text
+      held = held_after c.args.self.now.limits (graph_in c.args.self.now) (kept_graph c.raise_found.new.self (map vertex_of c.join.new.nodes.entries) (keys_of c.join.new.places.entries)) (AddEdge c.args.triple.now) c.args.self.now.held c.bytes.ensures.text
           (edge_added c.args.self.now.names c.args.self.now.nodes.entries c.args.self.now.places.entries c.args.triple.now c.in_ok-label.label c.args.self.now.named c.find-known.ensures.table
-          (sym c.contains_key.ensures ∙ c.if-not-contains_key.false) (sym c.contains_key-2.ensures ∙ c.if-not-contains_key-2.false)
-          c.raise.new.self (map vertex_of c.join.new.nodes.entries) (keys_of c.join.new.places.entries) c.in_ok-label.ensures.others c.join.ensures.vertices c.args.self.now.limits
+          c.in-Some.ensures.stands c.in-Some-index_of.ensures.stands
+          c.raise_found.new.self (map vertex_of c.join.new.nodes.entries) (keys_of c.join.new.places.entries) c.in_ok-label.ensures.others c.join.ensures.vertices c.args.self.now.limits
           (known_triple c.args.self.now.names (map vertex_of c.args.self.now.nodes.entries) c.args.self.now.places.entries c.args.triple.now c.find-known.result c.args.self.now.named c.find-known.ensures.table c.find-known.ensures.found ∙ (sym c.stands.ensures ∙ c.if-stands.false))
           (full_is c.args.self.now.limits c.args.self.now.names (map vertex_of c.args.self.now.nodes.entries) (keys_of c.args.self.now.places.entries) c.args.triple.now.label c.find-known.result c.len.result c.len-2.result
           c.args.self.now.named c.find-known.ensures.table c.len.ensures.unique c.find-known.ensures.found (c.len.ensures.len ∙ sym (length-keys_of c.args.self.now.places.entries)) c.len-2.ensures.value
@@ -72,8 +72,8 @@ invariant_of-self-in-Ok c =
 pub returns-in-Ok-clause-ok : goal.returns-in-Ok-clause-ok
 returns-in-Ok-clause-ok c =
     edge_added c.args.self.now.names c.args.self.now.nodes.entries c.args.self.now.places.entries c.args.triple.now c.in_ok-label.label c.args.self.now.named c.find-known.ensures.table
-    (sym c.contains_key.ensures ∙ c.if-not-contains_key.false) (sym c.contains_key-2.ensures ∙ c.if-not-contains_key-2.false)
-    c.raise.new.self (map vertex_of c.join.new.nodes.entries) (keys_of c.join.new.places.entries) c.in_ok-label.ensures.others c.join.ensures.vertices c.args.self.now.limits
+    c.in-Some.ensures.stands c.in-Some-index_of.ensures.stands
+    c.raise_found.new.self (map vertex_of c.join.new.nodes.entries) (keys_of c.join.new.places.entries) c.in_ok-label.ensures.others c.join.ensures.vertices c.args.self.now.limits
     (known_triple c.args.self.now.names (map vertex_of c.args.self.now.nodes.entries) c.args.self.now.places.entries c.args.triple.now c.find-known.result c.args.self.now.named c.find-known.ensures.table c.find-known.ensures.found ∙ (sym c.stands.ensures ∙ c.if-stands.false))
     (full_is c.args.self.now.limits c.args.self.now.names (map vertex_of c.args.self.now.nodes.entries) (keys_of c.args.self.now.places.entries) c.args.triple.now.label c.find-known.result c.len.result c.len-2.result
     c.args.self.now.named c.find-known.ensures.table c.len.ensures.unique c.find-known.ensures.found (c.len.ensures.len ∙ sym (length-keys_of c.args.self.now.places.entries)) c.len-2.ensures.value
@@ -82,7 +82,7 @@ returns-in-Ok-clause-ok c =
 
 pub invariant_of-self-in-Err : goal.invariant_of-self-in-Err
 invariant_of-self-in-Err c =
-    let slots = (back_same c.args.self.now.names c.raise.new.self c.lower.new.self c.in_ok-label.label c.args.triple.now.label c.find-known.ensures.table c.in_ok-label.ensures.was c.in_ok-label.ensures.here c.in_ok-label.ensures.others c.lower.ensures.here c.lower.ensures.others) in
+    let slots = (back_same c.args.self.now.names c.raise_found.new.self c.lower.new.self c.in_ok-label.label c.args.triple.now.label c.find-known.ensures.table c.in_ok-label.ensures.was c.in_ok-label.ensures.here c.in_ok-label.ensures.others c.lower.ensures.here c.lower.ensures.others) in
     let same = same_graph_of c.args.self.now.names c.lower.new.self (map vertex_of c.args.self.now.nodes.entries) (map vertex_of c.join.new.nodes.entries) (keys_of c.args.self.now.places.entries) (keys_of c.join.new.places.entries) slots c.join.ensures.vertices c.in-Err.ensures.same in
     let P : Graph → Type 0 = λ g. IsWithinLimits c.args.self.now.limits g in
     record {
@@ -94,16 +94,16 @@ invariant_of-self-in-Err c =
 pub returns-in-Err-clause-unchanged : goal.returns-in-Err-clause-unchanged
 returns-in-Err-clause-unchanged c =
     same_graph_of c.args.self.now.names c.lower.new.self (map vertex_of c.args.self.now.nodes.entries) (map vertex_of c.join.new.nodes.entries) (keys_of c.args.self.now.places.entries) (keys_of c.join.new.places.entries)
-    (back_same c.args.self.now.names c.raise.new.self c.lower.new.self c.in_ok-label.label c.args.triple.now.label c.find-known.ensures.table c.in_ok-label.ensures.was c.in_ok-label.ensures.here c.in_ok-label.ensures.others c.lower.ensures.here c.lower.ensures.others) c.join.ensures.vertices c.in-Err.ensures.same
+    (back_same c.args.self.now.names c.raise_found.new.self c.lower.new.self c.in_ok-label.label c.args.triple.now.label c.find-known.ensures.table c.in_ok-label.ensures.was c.in_ok-label.ensures.here c.in_ok-label.ensures.others c.lower.ensures.here c.lower.ensures.others) c.join.ensures.vertices c.in-Err.ensures.same
 
 pub returns-in-Err-clause-outs : goal.returns-in-Err-clause-outs
 returns-in-Err-clause-outs c = λ v at.
     same_row c.args.self.now.names c.lower.new.self
-    (back_same c.args.self.now.names c.raise.new.self c.lower.new.self c.in_ok-label.label c.args.triple.now.label c.find-known.ensures.table c.in_ok-label.ensures.was c.in_ok-label.ensures.here c.in_ok-label.ensures.others c.lower.ensures.here c.lower.ensures.others)
+    (back_same c.args.self.now.names c.raise_found.new.self c.lower.new.self c.in_ok-label.label c.args.triple.now.label c.find-known.ensures.table c.in_ok-label.ensures.was c.in_ok-label.ensures.here c.in_ok-label.ensures.others c.lower.ensures.here c.lower.ensures.others)
     (out_link v) (outs c.args.self.now.nodes.entries v) (outs c.join.new.nodes.entries v) at.place (c.in-Err.ensures.outs v)
 
 pub returns-in-Err-clause-ins : goal.returns-in-Err-clause-ins
 returns-in-Err-clause-ins c = λ v at.
     same_row c.args.self.now.names c.lower.new.self
-    (back_same c.args.self.now.names c.raise.new.self c.lower.new.self c.in_ok-label.label c.args.triple.now.label c.find-known.ensures.table c.in_ok-label.ensures.was c.in_ok-label.ensures.here c.in_ok-label.ensures.others c.lower.ensures.here c.lower.ensures.others)
+    (back_same c.args.self.now.names c.raise_found.new.self c.lower.new.self c.in_ok-label.label c.args.triple.now.label c.find-known.ensures.table c.in_ok-label.ensures.was c.in_ok-label.ensures.here c.in_ok-label.ensures.others c.lower.ensures.here c.lower.ensures.others)
     (in_link v) (ins c.args.self.now.nodes.entries v) (ins c.join.new.nodes.entries v) at.place (c.in-Err.ensures.ins v)

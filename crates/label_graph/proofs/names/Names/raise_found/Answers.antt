@@ -3,18 +3,18 @@ use Rattle.std.specs.Prelude.{slice_set, nat_eq, MatchOption}
 use Rattle.std.specs.Option.{option_copied_mut}
 use Rattle.std.specs.Cmp.Lexicographic.{pointwise}
 use Rattle.label_graph.specs.declared.names.Name.{Name}
-use Rattle.label_graph.specs.Names.{slot, uses_of, IsUnknown}
-use Rattle.std.proofs.lemmas.Option.{same_Some}
+use Rattle.label_graph.specs.Names.{slot, text_at, uses_of, IsUnknown}
+use Rattle.std.proofs.lemmas.Option.{same_Some, MatchOption-at_some, MatchOption-at_none}
 use Rattle.slab.specs.Slab.{Slab}
 use Rattle.label_graph.specs.Table.{number_of}
-use Rattle.label_graph.proofs.PlaceLemmas.{IsSome-mapped}
-use Rattle.label_graph.proofs.TableLemmas.{same_name, kept_inside, added_inside, set_here, set_other, found_slot}
-use Rattle.label_graph.proofs.names.Names.raise.Goals as goal
+use Rattle.label_graph.proofs.PlaceLemmas.{IsSome-mapped, option_map_some}
+use Rattle.label_graph.proofs.TableLemmas.{same_name, kept_inside, added_inside, unknown_number, set_here, set_other}
+use Rattle.label_graph.proofs.names.Names.raise_found.Goals as goal
 
 pub unwrap-name-requires : goal.unwrap-name-requires
 unwrap-name-requires c =
-    let found : number_of c.self.inside.numbers.entries c.args.text.now ≡ Some c.in-Some.n = sym c.get.ensures.value ∙ (sym c.copied.ensures ∙ c.in-Some.is) in
-    let x = found_slot c.self.inside.numbers.entries c.self.inside.slots.slots c.args.text.now c.in-Some.n c.self.invariant found in
+    let found = MatchOption-at_some (IsUnknown c.args.self.now c.args.text.now) (λ n. text_at c.args.self.now n ≡ Some c.args.text.now) c.in-Some.n c.in-Some.is c.requires in
+    let x = option_map_some (λ (y : Name). y.text) (slot c.self.inside.slots.slots c.in-Some.n) c.args.text.now (ap (λ l. text_at l c.in-Some.n) c.self.view_is ∙ found) in
     IsSome-mapped _ c.get_mut.result x.0 (c.get_mut.ensures.value ∙ x.1)
 
 pub invariant_of-self-in-Some : goal.invariant_of-self-in-Some
@@ -27,7 +27,9 @@ invariant_of-self-in-Some c =
 pub invariant_of-self-in-None : goal.invariant_of-self-in-None
 invariant_of-self-in-None c =
     let x : Name = record { text = c.in_ok-text-in-None.text; uses = 1 } in
-    let unknown : number_of c.self.inside.numbers.entries c.args.text.now ≡ None = sym c.get.ensures.value ∙ (sym c.copied.ensures ∙ c.in-None.is) in
+    let unknown : number_of c.self.inside.numbers.entries c.args.text.now ≡ None =
+    unknown_number c.self.inside.numbers.entries c.self.inside.slots.slots c.args.text.now c.self.invariant
+    (subst (λ l. IsUnknown l c.args.text.now) (sym c.self.view_is) (MatchOption-at_none (IsUnknown c.args.self.now c.args.text.now) (λ n. text_at c.args.self.now n ≡ Some c.args.text.now) c.in-None.is c.requires)) in
     let kept = c.reserve.ensures.rest_kept in
     let slots : c.reserve.new.self.slots ≡ c.self.inside.slots.slots = ap (λ (s : Slab Name). s.slots) c.reserve.ensures.rest_kept in
     let key : c.in_ok-key-in-None.key ≡ c.args.text.now = c.in_ok-key-in-None.ensures in
@@ -54,8 +56,8 @@ pub returns-in-Some-checked_add-clause-here : goal.returns-in-Some-checked_add-c
 returns-in-Some-checked_add-clause-here c =
     let y : Name = record { text = c.unwrap-name.result.now.text; uses = c.in-Some-checked_add.uses } in
     let at : slot c.self.inside.slots.slots c.in-Some.n ≡ Some c.unwrap-name.result.now = sym c.get_mut.ensures.value ∙ ap option_copied_mut c.unwrap-name.ensures in
-    let found : number_of c.self.inside.numbers.entries c.args.text.now ≡ Some c.in-Some.n = sym c.get.ensures.value ∙ (sym c.copied.ensures ∙ c.in-Some.is) in
-    let x = found_slot c.self.inside.numbers.entries c.self.inside.slots.slots c.args.text.now c.in-Some.n c.self.invariant found in
+    let found = MatchOption-at_some (IsUnknown c.args.self.now c.args.text.now) (λ n. text_at c.args.self.now n ≡ Some c.args.text.now) c.in-Some.n c.in-Some.is c.requires in
+    let x = option_map_some (λ (y : Name). y.text) (slot c.self.inside.slots.slots c.in-Some.n) c.args.text.now (ap (λ l. text_at l c.in-Some.n) c.self.view_is ∙ found) in
     let same : x.0 ≡ c.unwrap-name.result.now = same_Some x.0 c.unwrap-name.result.now (sym x.1 ∙ at) in
     let P : List (Option Name) → Type 0 = λ names. uses_of (slot names c.in-Some.n) ≡ c.unwrap-name.result.now.uses in
     let was : uses_of (slot c.args.self.now c.in-Some.n) ≡ c.unwrap-name.result.now.uses = subst P c.self.view_is (ap uses_of at) in
@@ -65,7 +67,7 @@ returns-in-Some-checked_add-clause-here c =
 
 pub returns-in-Some-checked_add-clause-was : goal.returns-in-Some-checked_add-clause-was
 returns-in-Some-checked_add-clause-was c =
-    let found : number_of c.self.inside.numbers.entries c.args.text.now ≡ Some c.in-Some.n = sym c.get.ensures.value ∙ (sym c.copied.ensures ∙ c.in-Some.is) in
-    let x = found_slot c.self.inside.numbers.entries c.self.inside.slots.slots c.args.text.now c.in-Some.n c.self.invariant found in
+    let found = MatchOption-at_some (IsUnknown c.args.self.now c.args.text.now) (λ n. text_at c.args.self.now n ≡ Some c.args.text.now) c.in-Some.n c.in-Some.is c.requires in
+    let x = option_map_some (λ (y : Name). y.text) (slot c.self.inside.slots.slots c.in-Some.n) c.args.text.now (ap (λ l. text_at l c.in-Some.n) c.self.view_is ∙ found) in
     let P : List (Option Name) → Type 0 = λ names. MatchOption (slot names c.in-Some.n) (IsUnknown names c.args.text.now) (λ x. x.text ≡ c.args.text.now) in
     subst P c.self.view_is (rw x.1 x.2)
