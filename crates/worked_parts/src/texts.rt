@@ -45,8 +45,9 @@ pub fn graph_of(alloc: Global, text: &str) -> Result<LabelGraph, Unmade>
 pub fn patterns_of(alloc: Global, text: &str) -> Result<Patterns, Unmade>
     ensures { IfOk result (λ patterns. pattern_file standard (Some text.now) ≡ Ok patterns) }
 {
+    let limits = Limits::standard();
     let mut shelf = shelf_of(alloc, NAME, text)?;
-    let patterns = read_patterns(alloc, &Limits::standard(), &mut shelf, NAME)?;
+    let patterns = read_patterns(alloc, &limits, &mut shelf, NAME)?;
     Ok(patterns)
 }
 
