@@ -3,5 +3,7 @@ pub mod Entries
 pub mod MemShelf
 pub mod MemSink
 pub mod MemSource
+pub mod Noted
+pub mod Reads
 pub mod Real
 pub mod Told

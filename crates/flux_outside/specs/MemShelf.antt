@@ -1,13 +1,15 @@
 -- What a shelf in memory is seen as.
 use Rattle.std.specs.Prelude.{ℕ, ◌+◌, List, [], ◌∷◌, Option, None, Some, if◌then◌else◌}
 use Rattle.std.specs.Str.{bytes_eq}
+use Rattle.flux_outside.specs.Reads.{NamedRead}
 
--- Each name with its bytes, the number of the next read, the numbers of the reads that fail, and
--- the count of faults.
+-- Each name with its bytes, the number of the next read, the numbers of the reads that fail, the
+-- reads that were made, and the count of faults.
 pub record Rack : Type 0 where
   pub entries : List (List ℕ × List ℕ)
   pub call : ℕ
   pub failing : List ℕ
+  pub reads : List NamedRead
   pub faults : ℕ
 
 -- The bytes of the first entry with this name.

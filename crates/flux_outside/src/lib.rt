@@ -6,7 +6,8 @@
 //!
 //! An object tells its bytes where contracts know them: the bytes that a source has left, that a
 //! sink took, that a shelf has under each name. What a call does to bytes is promised where they
-//! are told.
+//! are told. What was asked every object tells: the reads that were made, each with what came, and
+//! the lengths of the pieces that were put.
 //!
 //! `MemSource`, `MemSink` and `MemShelf` live in memory and tell everything, and a call says by
 //! contract when it fails. `StdinSource`, `StdoutSink` and `StderrSink` stand over a reader or a
@@ -16,6 +17,7 @@
 #![tactic(auto)]
 
 mod buffers;
+mod calls;
 mod counts;
 #[cfg(test)]
 mod fakes;
@@ -23,6 +25,7 @@ mod file_shelf;
 mod mem_shelf;
 mod mem_sink;
 mod mem_source;
+mod read_outcome;
 mod retry;
 mod stderr_sink;
 mod stdin_source;
@@ -33,6 +36,7 @@ pub use file_shelf::FileShelf;
 pub use mem_shelf::MemShelf;
 pub use mem_sink::MemSink;
 pub use mem_source::MemSource;
+pub use read_outcome::ReadOutcome;
 pub use stderr_sink::StderrSink;
 pub use stdin_source::StdinSource;
 pub use stdout_sink::StdoutSink;

@@ -5,9 +5,12 @@ ghost use Rattle.flux_outside.specs.Causes.{HasCause, next_count};
 ghost use Rattle.flux_outside.specs.Told.{ShelfReads};
 ghost use Rattle.flux_outside.specs.MemShelf.{bytes_of, place_from};
 ghost use Rattle.flux_outside.specs.Entries.{seen_entries};
+ghost use Rattle.flux_outside.specs.Reads.{outcome_by_name};
 
 use crate::buffers::copy_front;
+use crate::calls::Calls;
 use crate::counts::count_fault;
+use crate::read_outcome::ReadOutcome;
 use crate::traits::{Failed, Shelf};
 use std::alloc::{AllocError, Global};
 use std::marker::Model;
@@ -25,6 +28,7 @@ pub struct MemShelf {
     entries: Vec<Entry>,
     call: u64,
     failing: Vec<u64>,
+    calls: Calls,
     faults: u64,
     alloc: Global,
 }
@@ -33,10 +37,17 @@ impl Model for MemShelf {
     ghost use Rattle.std.specs.Prelude.{◌<◌, ◌^◌};
     ghost use Rattle.flux_outside.specs.MemShelf.{Rack};
     ghost use Rattle.flux_outside.specs.Entries.{seen_entries};
+    ghost use Rattle.flux_outside.specs.Reads.{named_reads_of};
 
     ghost Value = { Rack };
 
-    ghost view = { λ s. record { entries = seen_entries s.entries.items; call = s.call; failing = s.failing.items; faults = s.faults } };
+    ghost view = { λ s. record {
+      entries = seen_entries s.entries.items;
+      call = s.call;
+      failing = s.failing.items;
+      reads = named_reads_of s.calls.made;
+      faults = s.faults;
+    } };
 
     ghost invariant = { λ s. s.faults < 2 ^ 64 };
 }
@@ -44,12 +55,13 @@ impl Model for MemShelf {
 impl MemShelf {
     /// A shelf with no names, where no read fails, and with no fault yet.
     pub fn new(alloc: Global) -> MemShelf
-        ensures { result ≡ record { entries = []; call = 0; failing = []; faults = 0 } }
+        ensures { result ≡ record { entries = []; call = 0; failing = []; reads = []; faults = 0 } }
     {
         MemShelf {
             entries: Vec::new(alloc),
             call: 0,
             failing: Vec::new(alloc),
+            calls: Calls::new(),
             faults: 0,
             alloc,
         }
@@ -108,12 +120,17 @@ fn find<'a>(entries: &'a [Entry], name: &str) -> Option<&'a [u8]>
 impl Shelf for MemShelf {
     ghost files = { λ s. Some (bytes_of s.entries) };
 
+    ghost reads = { λ s. s.reads };
+
     ghost faults = { λ s. s.faults };
 
     fn read(&mut self, name: &str, from: u64, buf: &mut [u8]) -> Result<Option<usize>, Failed>
         ensures bound { IfOk result (λ answer. IfSome answer (λ n. n ≤ length buf.new)) }
         ensures bytes { ShelfReads (Some (bytes_of self.old.entries)) result name.now from buf.new }
         ensures entries { self.new.entries ≡ self.old.entries }
+        ensures asked { self.new.reads
+            ≡ record { name = name.now; place = from; read = record { asked = length buf.old; outcome = outcome_by_name result } }
+            ∷ self.old.reads }
         ensures cause { HasCause self.old.faults self.new.faults result }
         ensures named { IsErr result ↔ Contains self.old.failing self.old.call }
         ensures call { self.new.call ≡ next_count self.old.call }
@@ -122,15 +139,21 @@ impl Shelf for MemShelf {
     {
         let call = self.call;
         self.call = call.saturating_add(1);
+        let asked = buf.len();
         if self.failing.contains(&call) {
+            self.calls.note(name, from, asked, ReadOutcome::Fault);
             return Err(count_fault(&mut self.faults));
         }
         let Some(bytes) = find(&self.entries, name) else {
+            self.calls.note(name, from, asked, ReadOutcome::NoFile);
             return Ok(None);
         };
         let at = from.min(bytes.len() as u64);
         let left = &bytes[at as usize..];
-        Ok(Some(copy_front(left, left.len(), buf)))
+        let count = copy_front(left, left.len(), buf);
+        self.calls
+            .note(name, from, asked, ReadOutcome::Bytes(count));
+        Ok(Some(count))
     }
 }
 

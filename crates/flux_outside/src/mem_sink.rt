@@ -1,8 +1,9 @@
 // A sink in memory.
-ghost use Rattle.std.specs.Prelude.{◌≡◌, ◌+◌, ◌≤◌, ◌↔◌, [], length, Some, IfOk, IsOk, OnErr};
+ghost use Rattle.std.specs.Prelude.{◌≡◌, ◌+◌, ◌≤◌, ◌↔◌, [], ◌∷◌, length, Some, IfOk, IsOk, OnErr};
 ghost use Rattle.flux_outside.specs.Causes.{HasCause, next_count};
 ghost use Rattle.flux_outside.specs.Told.{PutAppends};
 
+use crate::calls::Calls;
 use crate::counts::count_fault;
 use crate::traits::{Failed, Sink};
 use std::alloc::{AllocError, Global};
@@ -14,16 +15,18 @@ use std::marker::Model;
 pub struct MemSink {
     bytes: Vec<u8>,
     room: usize,
+    calls: Calls,
     faults: u64,
 }
 
 impl Model for MemSink {
     ghost use Rattle.std.specs.Prelude.{◌≤◌, ◌<◌, ◌^◌, vec_len, vec_capacity};
     ghost use Rattle.flux_outside.specs.MemSink.{Kept};
+    ghost use Rattle.flux_outside.specs.Reads.{puts_of};
 
     ghost Value = { Kept };
 
-    ghost view = { λ s. record { bytes = s.bytes.items; room = s.room; faults = s.faults } };
+    ghost view = { λ s. record { bytes = s.bytes.items; room = s.room; puts = puts_of s.calls.made; faults = s.faults } };
 
     ghost invariant = { λ s. (vec_len s.bytes ≤ s.room) × (s.room ≤ vec_capacity s.bytes) × (s.faults < 2 ^ 64) };
 }
@@ -31,12 +34,13 @@ impl Model for MemSink {
 impl MemSink {
     /// An empty sink for so many bytes, with no fault yet.
     pub fn new(alloc: Global, room: usize) -> Result<MemSink, AllocError>
-        ensures { IfOk result (λ sink. sink ≡ record { bytes = []; room = room; faults = 0 }) }
+        ensures { IfOk result (λ sink. sink ≡ record { bytes = []; room = room; puts = []; faults = 0 }) }
     {
         let bytes = Vec::with_capacity(alloc, room)?;
         Ok(MemSink {
             bytes,
             room,
+            calls: Calls::new(),
             faults: 0,
         })
     }
@@ -52,16 +56,20 @@ impl MemSink {
 impl Sink for MemSink {
     ghost taken = { λ s. Some s.bytes };
 
+    ghost puts = { λ s. s.puts };
+
     ghost faults = { λ s. s.faults };
 
     fn put(&mut self, piece: &[u8]) -> Result<(), Failed>
         ensures bytes { PutAppends (Some self.old.bytes) (Some self.new.bytes) result piece.now }
+        ensures asked { self.new.puts ≡ length piece.now ∷ self.old.puts }
         ensures cause { HasCause self.old.faults self.new.faults result }
         ensures room { self.new.room ≡ self.old.room }
         ensures fits { IsOk result ↔ (length self.old.bytes + length piece.now ≤ self.old.room) }
         ensures full { OnErr result (length self.new.bytes ≡ self.old.room) }
         ensures count { OnErr result (self.new.faults ≡ next_count self.old.faults) }
     {
+        self.calls.put(piece.len());
         let space = self.room - self.bytes.len();
         if piece.len() <= space {
             self.bytes.extend_from_slice(piece).unwrap();

@@ -1,12 +1,15 @@
 // A source in memory.
-ghost use Rattle.std.specs.Prelude.{◌≡◌, ◌↔◌, length, min, Some, IfOk, IsErr, OnErr, Contains};
+ghost use Rattle.std.specs.Prelude.{◌≡◌, ◌↔◌, [], ◌∷◌, length, min, Some, IfOk, IsErr, OnErr, Contains};
 ghost use Rattle.std.specs.Io.{ReadsAtMost};
 ghost use Rattle.std.specs.Io.KnownBytes.{ReadConsumes};
 ghost use Rattle.flux_outside.specs.Causes.{HasCause, next_count};
 ghost use Rattle.flux_outside.specs.MemSource.{Feed, cut_at};
+ghost use Rattle.flux_outside.specs.Reads.{outcome_of};
 
 use crate::buffers::copy_front;
+use crate::calls::Calls;
 use crate::counts::count_fault;
+use crate::read_outcome::ReadOutcome;
 use crate::traits::{Failed, Source};
 use std::alloc::{AllocError, Global};
 use std::marker::Model;
@@ -19,17 +22,25 @@ pub struct MemSource {
     call: u64,
     cuts: Vec<u64>,
     failing: Vec<u64>,
+    calls: Calls,
     faults: u64,
 }
 
 impl Model for MemSource {
     ghost use Rattle.std.specs.Prelude.{◌≤◌, ◌<◌, ◌^◌, vec_len, drop};
     ghost use Rattle.flux_outside.specs.MemSource.{Feed};
+    ghost use Rattle.flux_outside.specs.Reads.{reads_of};
 
     ghost Value = { Feed };
 
-    ghost view = { λ s. let left = drop s.at s.bytes.items in
-        record { left = left; call = s.call; cuts = s.cuts.items; failing = s.failing.items; faults = s.faults } };
+    ghost view = { λ s. record {
+      left = drop s.at s.bytes.items;
+      call = s.call;
+      cuts = s.cuts.items;
+      failing = s.failing.items;
+      reads = reads_of s.calls.made;
+      faults = s.faults;
+    } };
 
     ghost invariant = { λ s. (s.at ≤ vec_len s.bytes) × (s.faults < 2 ^ 64) };
 }
@@ -46,7 +57,8 @@ impl MemSource {
         cuts: &[u64],
         failing: &[u64],
     ) -> Result<MemSource, AllocError>
-        ensures { let fresh : Feed = record { left = bytes.now; call = 0; cuts = cuts.now; failing = failing.now; faults = 0 } in
+        ensures { let fresh : Feed =
+            record { left = bytes.now; call = 0; cuts = cuts.now; failing = failing.now; reads = []; faults = 0 } in
             IfOk result (λ source. source ≡ fresh) }
     {
         let bytes = bytes.to_vec(alloc)?;
@@ -58,6 +70,7 @@ impl MemSource {
             call: 0,
             cuts,
             failing,
+            calls: Calls::new(),
             faults: 0,
         })
     }
@@ -78,11 +91,14 @@ fn cut_of(cuts: &[u64], call: u64) -> u64
 impl Source for MemSource {
     ghost left = { λ s. Some s.left };
 
+    ghost reads = { λ s. s.reads };
+
     ghost faults = { λ s. s.faults };
 
     fn read(&mut self, buf: &mut [u8]) -> Result<usize, Failed>
         ensures bound { ReadsAtMost result buf.new }
         ensures bytes { ReadConsumes (Some self.old.left) (Some self.new.left) result buf.new }
+        ensures asked { self.new.reads ≡ record { asked = length buf.old; outcome = outcome_of result } ∷ self.old.reads }
         ensures cause { HasCause self.old.faults self.new.faults result }
         ensures named { IsErr result ↔ Contains self.old.failing self.old.call }
         ensures cut { IfOk result (λ n. n ≡ min (min (length buf.old) (length self.old.left)) (cut_at self.old.cuts self.old.call)) }
@@ -93,12 +109,15 @@ impl Source for MemSource {
     {
         let call = self.call;
         self.call = call.saturating_add(1);
+        let asked = buf.len();
         if self.failing.contains(&call) {
+            self.calls.note("", 0, asked, ReadOutcome::Fault);
             return Err(count_fault(&mut self.faults));
         }
         let cut = cut_of(&self.cuts, call);
         let count = copy_front(&self.bytes[self.at..], cut as usize, buf);
         self.at += count;
+        self.calls.note("", 0, asked, ReadOutcome::Bytes(count));
         Ok(count)
     }
 }

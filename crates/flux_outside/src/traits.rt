@@ -1,8 +1,9 @@
 // What the program asks of the outside.
-ghost use Rattle.std.specs.Prelude.{◌≡◌, ◌≤◌, List, ℕ, length, Option, IfOk, IfSome};
+ghost use Rattle.std.specs.Prelude.{◌≡◌, ◌≤◌, List, ℕ, ◌∷◌, length, Option, IfOk, IfSome};
 ghost use Rattle.std.specs.Io.{ReadsAtMost};
 ghost use Rattle.std.specs.Io.KnownBytes.{ReadConsumes};
 ghost use Rattle.flux_outside.specs.Causes.{HasCause};
+ghost use Rattle.flux_outside.specs.Reads.{Read, NamedRead, outcome_of, outcome_by_name};
 ghost use Rattle.flux_outside.specs.Told.{PutAppends, Files, ShelfReads};
 
 /// A call on the outside failed, and the object's count of faults has risen or stands at its end.
@@ -14,6 +15,9 @@ pub trait Source {
     /// The bytes that are left, where the object tells them.
     ghost left: { Self → Option (List ℕ) };
 
+    /// The reads that were made, the last first.
+    ghost reads: { Self → List Read };
+
     /// The count of faults, which never falls.
     ghost faults: { Self → ℕ };
 
@@ -22,6 +26,7 @@ pub trait Source {
     fn read(&mut self, buf: &mut [u8]) -> Result<usize, Failed>
         ensures bound { ReadsAtMost result buf.new }
         ensures bytes { ReadConsumes (left self.old) (left self.new) result buf.new }
+        ensures asked { reads self.new ≡ record { asked = length buf.old; outcome = outcome_of result } ∷ reads self.old }
         ensures cause { HasCause (faults self.old) (faults self.new) result };
 }
 
@@ -30,12 +35,16 @@ pub trait Sink {
     /// The bytes that were taken so far, where the object tells them.
     ghost taken: { Self → Option (List ℕ) };
 
+    /// The lengths of the pieces that were put, the last first.
+    ghost puts: { Self → List ℕ };
+
     /// The count of faults, which never falls.
     ghost faults: { Self → ℕ };
 
     /// Appends the piece. Where it fails, it has appended a front part of it.
     fn put(&mut self, piece: &[u8]) -> Result<(), Failed>
         ensures bytes { PutAppends (taken self.old) (taken self.new) result piece.now }
+        ensures asked { puts self.new ≡ length piece.now ∷ puts self.old }
         ensures cause { HasCause (faults self.old) (faults self.new) result };
 }
 
@@ -43,6 +52,9 @@ pub trait Sink {
 pub trait Shelf {
     /// The bytes of each name, where the object tells them.
     ghost files: { Self → Option Files };
+
+    /// The reads that were made, the last first.
+    ghost reads: { Self → List NamedRead };
 
     /// The count of faults, which never falls.
     ghost faults: { Self → ℕ };
@@ -54,5 +66,8 @@ pub trait Shelf {
         ensures bound { IfOk result (λ answer. IfSome answer (λ n. n ≤ length buf.new)) }
         ensures bytes { ShelfReads (files self.old) result name.now from buf.new }
         ensures same { files self.new ≡ files self.old }
+        ensures asked { reads self.new
+            ≡ record { name = name.now; place = from; read = record { asked = length buf.old; outcome = outcome_by_name result } }
+            ∷ reads self.old }
         ensures cause { HasCause (faults self.old) (faults self.new) result };
 }

@@ -37,7 +37,7 @@ fn main(rt: HostRuntime) -> ExitCode {
         Ok(words) => words,
         Err(error) => return without_words(&error, &mut err),
     };
-    let mut shelf = FileShelf::new(&rt);
+    let mut shelf = FileShelf::new(alloc, &rt);
     let mut updates = StdinSource::new(rt.stdin());
     let mut out = StdoutSink::new(rt.stdout());
     let mut steps = Steps::new(Silent);
