@@ -1,5 +1,5 @@
 -- Files that are read through what is kept of them.
-use Rattle.std.proofs.Common.{◌≡◌, ℕ, suc, List, [], ◌∷◌, map, false, Option, None, Some, Result, Ok, Err, refl, sym, ap, ◌∙◌}
+use Rattle.std.proofs.Common.{◌≡◌, ℕ, suc, List, [], ◌∷◌, map, take, false, Option, None, Some, Result, Ok, Err, IsOk, IfSome, refl, sym, ap, ◌∙◌}
 use Rattle.std.specs.Result.{result_map_both, is_ok}
 use Rattle.flux_outside.specs.Told.{Files}
 use Rattle.flux_model.specs.Lines.{InputLine, whole, lines}
@@ -13,6 +13,7 @@ use Rattle.flux_model.specs.Verdict.{Verdict, BadGraph, BadPatterns, file_as, gr
 use Rattle.flux_model.specs.declared.code.Bad.{Bad}
 use Rattle.flux_model.specs.declared.limits.Limits.{Limits}
 use Rattle.pattern_check.specs.Reading.{PatternReading}
+use Rattle.file_reading.specs.AskedOfFile.{NoLineRefused, graph_front, pattern_front}
 use Rattle.file_reading.specs.FileContents.{FileIs}
 use Rattle.file_reading.specs.AfterLine.{after_graph_line, after_pattern_line}
 use Rattle.file_reading.specs.ReadingStops.{read_as, StopWhere}
@@ -119,6 +120,31 @@ graph-stops limits files name first reads (stop.Bad bad) is h = graph-refused li
 pub empty_under : (limits : Limits) (kept : LimitedGraph) → kept.limits ≡ limits → kept.graph ≡ empty_graph → kept ≡ kept_under limits empty_graph
 empty_under limits kept under empty = ap (λ (l : Limits). record kept { limits = l }) under ∙ ap (kept_under limits) empty
 
+-- none of its first whole lines is refused
+IsOk-same : {S T E : Type 0} (r : Result S E) (t : Result T E) → is_ok t ≡ is_ok r → IsOk t → IsOk r
+IsOk-same (Ok x) (Ok y) same so = refl
+IsOk-same (Ok x) (Err e) same so = refl
+IsOk-same (Err e) (Ok y) same so = cc
+IsOk-same (Err e) (Err f) same so = cc
+
+NoLineRefused-map : {S T : Type 0} (files : Option Files) (name : List ℕ) (f : List ℕ → Result S Bad) (g : List ℕ → Result T Bad) (n : ℕ)
+    → ((b : List ℕ) → is_ok (f b) ≡ is_ok (g b)) → NoLineRefused files name f n → NoLineRefused files name g n
+NoLineRefused-map None name f g n same so = tt
+NoLineRefused-map (Some m) name f g n same so = by (m name) so
+  where
+    by : (o : Option (List ℕ)) → IfSome o (λ b. IsOk (f (take n b))) → IfSome o (λ b. IsOk (g (take n b)))
+    by None so = tt
+    by (Some b) so = IsOk-same (g (take n b)) (f (take n b)) (same (take n b)) so
+
+pub graph-unrefused : (limits : Limits) (files : Option Files) (name : List ℕ) (first : LimitedGraph) (n : ℕ)
+    → first ≡ kept_under limits empty_graph
+    → NoLineRefused files name (λ b. read_from after_graph_line 1 first (whole limits.line_bytes b)) n
+    → NoLineRefused files name (graph_front limits) n
+graph-unrefused limits files name first n is so =
+    NoLineRefused-map files name (λ b. read_from after_graph_line 1 first (whole limits.line_bytes b)) (graph_front limits) n
+    (λ b. ap (λ s. is_ok (read_from after_graph_line 1 s (whole limits.line_bytes b))) is
+    ∙ ap is_ok (graph-read limits (whole limits.line_bytes b)) ∙ accepted_within (kept_under limits) (graph_front limits b)) so
+
 -- ---- pattern files
 
 abbrev reading_under : Limits → Draft → PatternReading
@@ -176,3 +202,12 @@ patterns-stops limits files name first reads stop.Read is h = h BadPatterns
 patterns-stops limits files name first reads stop.NoFile is h = patterns-refused limits files name first _ is (h BadPatterns)
 patterns-stops limits files name first reads stop.TooMuch is h = patterns-refused limits files name first _ is (h BadPatterns)
 patterns-stops limits files name first reads (stop.Bad bad) is h = patterns-refused limits files name first _ is (h BadPatterns)
+
+pub patterns-unrefused : (limits : Limits) (files : Option Files) (name : List ℕ) (first : PatternReading) (n : ℕ)
+    → first ≡ reading_under limits empty_draft
+    → NoLineRefused files name (λ b. read_from after_pattern_line 1 first (whole limits.line_bytes b)) n
+    → NoLineRefused files name (pattern_front limits) n
+patterns-unrefused limits files name first n is so =
+    NoLineRefused-map files name (λ b. read_from after_pattern_line 1 first (whole limits.line_bytes b)) (pattern_front limits) n
+    (λ b. ap (λ s. is_ok (read_from after_pattern_line 1 s (whole limits.line_bytes b))) is
+    ∙ ap is_ok (drafted-read limits (whole limits.line_bytes b)) ∙ accepted_within (reading_under limits) (pattern_front limits b)) so

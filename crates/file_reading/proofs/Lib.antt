@@ -2,3 +2,4 @@ pub mod JudgedLemmas
 pub mod FileLemmas
 pub mod GraphFileLemmas
 pub mod InputLemmas
+pub mod AskedLemmas

@@ -1,12 +1,14 @@
 //! Files, read piece by piece and line by line.
 ghost use Rattle.std.specs.Prelude.{◌≡◌, ◌≤◌, ◌<◌, ◌+◌, ◌^◌, [], false, List, ℕ, length, take, Ok, Err, OnOk, IfErr, IfOk};
-ghost use Rattle.flux_model.specs.Lines.{InputLine};
+ghost use Rattle.flux_model.specs.Lines.{InputLine, whole};
 ghost use Rattle.flux_model.specs.LentLine.{seen_line};
 ghost use Rattle.flux_model.specs.Limits.{IsFair};
 ghost use Rattle.flux_model.specs.FileReading.{read_from};
 ghost use Rattle.flux_model.specs.Verdict.{Verdict};
 ghost use Rattle.flux_model.specs.declared.code.Bad.{Bad};
 ghost use Rattle.flux_outside.specs.Causes.{Rose};
+ghost use Rattle.flux_outside.specs.Reads.{AskedOfInput, FileReads};
+ghost use Rattle.file_reading.specs.AskedOfFile.{WentOn, StopsAtFault, NoLineRefused};
 ghost use Rattle.file_reading.specs.FileContents.{FileIs};
 ghost use Rattle.file_reading.specs.ReadingStops.{read_as, LinesStop, StopWhere};
 
@@ -80,6 +82,9 @@ pub fn read_file<F: Shelf, T: TakeLine>(
     ensures stop { IfErr result (λ stop. (bad : Bad → Verdict) → StopWhere
         (λ verdict. FileIs (F.files shelf.old) name.now (read_as T.after_line limits.now file.old bad) (Err verdict))
         bad (Rose (F.faults shelf.old) (F.faults shelf.new)) stop) }
+    ensures asked { AskedOfInput limits.now.input_bytes (StopsAtFault result) (WentOn result)
+        (NoLineRefused (F.files shelf.old) name.now (λ b. read_from T.after_line 1 file.old (whole limits.now.line_bytes b)))
+        (FileReads name.now (F.reads shelf.old) (F.reads shelf.new)) }
 {
     let mut lines = Lines::new(alloc, limits.line_bytes);
     let Ok(mut buffer) = make_buffer(alloc) else {

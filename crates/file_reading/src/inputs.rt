@@ -1,9 +1,11 @@
 //! The readers of a graph file and of a pattern file.
 ghost use Rattle.std.specs.Prelude.{◌≡◌, ◌≤◌, Ok, Err, IfOk, IfErr};
 ghost use Rattle.flux_outside.specs.Causes.{Rose};
+ghost use Rattle.flux_outside.specs.Reads.{AskedOfInput, FileReads};
 ghost use Rattle.flux_model.specs.Graph.{empty_graph};
 ghost use Rattle.flux_model.specs.Limits.{IsFair};
 ghost use Rattle.flux_model.specs.Verdict.{BadGraph, BadPatterns, graph_file, pattern_file};
+ghost use Rattle.file_reading.specs.AskedOfFile.{WentOn, StopsAtFault, NoLineRefused, graph_front, pattern_front};
 ghost use Rattle.file_reading.specs.FileContents.{FileIs};
 ghost use Rattle.file_reading.specs.ReadingStops.{StopWhere};
 
@@ -32,6 +34,8 @@ pub fn read_graph<F: Shelf>(
     ensures stop { IfErr result (StopWhere
         (λ verdict. FileIs (F.files shelf.old) name.now (graph_file limits.now) (Err verdict))
         BadGraph (Rose (F.faults shelf.old) (F.faults shelf.new))) }
+    ensures asked { AskedOfInput limits.now.input_bytes (StopsAtFault result) (WentOn result)
+        (NoLineRefused (F.files shelf.old) name.now (graph_front limits.now)) (FileReads name.now (F.reads shelf.old) (F.reads shelf.new)) }
 {
     let mut graph = PlainGraph::new(alloc, limits);
     read_file(alloc, limits, shelf, name, &mut graph)?;
@@ -56,6 +60,8 @@ pub fn read_store<F: Shelf, G: KeepGraph>(
     ensures stop { IfErr result (StopWhere
         (λ verdict. FileIs (F.files shelf.old) name.now (graph_file limits.now) (Err verdict))
         BadGraph (Rose (F.faults shelf.old) (F.faults shelf.new))) }
+    ensures asked { AskedOfInput limits.now.input_bytes (StopsAtFault result) (WentOn result)
+        (NoLineRefused (F.files shelf.old) name.now (graph_front limits.now)) (FileReads name.now (F.reads shelf.old) (F.reads shelf.new)) }
 {
     let mut reader = StoreReader { graph: empty };
     read_file(alloc, limits, shelf, name, &mut reader)?;
@@ -76,6 +82,8 @@ pub fn read_patterns<F: Shelf>(
     ensures stop { IfErr result (StopWhere
         (λ verdict. FileIs (F.files shelf.old) name.now (pattern_file limits.now) (Err verdict))
         BadPatterns (Rose (F.faults shelf.old) (F.faults shelf.new))) }
+    ensures asked { AskedOfInput limits.now.input_bytes (StopsAtFault result) (WentOn result)
+        (NoLineRefused (F.files shelf.old) name.now (pattern_front limits.now)) (FileReads name.now (F.reads shelf.old) (F.reads shelf.new)) }
 {
     let mut reader = PatternReader::new(alloc, limits);
     read_file(alloc, limits, shelf, name, &mut reader)?;

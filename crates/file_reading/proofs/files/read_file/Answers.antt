@@ -1,9 +1,12 @@
-use Rattle.std.proofs.Common.{◌≡◌, ◌+◌, ◌≤◌, [], ◌∷◌, length, take, refl, ◌∙◌, arith, Ok, rules}
+use Rattle.std.proofs.Common.{◌≡◌, ◌+◌, ◌≤◌, [], ◌∷◌, length, take, refl, ap, ◌∙◌, arith, Ok, rules}
 use Rattle.std.proofs.lemmas.Result.{err_from_is_err_and, on_ok_weaker, IfErr-weaker}
 use Rattle.std.proofs.lemmas.Grind.{common_steps}
+use Rattle.flux_outside.specs.declared.read_outcome.ReadOutcome.TheVariants.{Bytes, NoFile, Fault}
+use Rattle.flux_outside.proofs.ReadsLemmas.{file-gave, file-last}
 use Rattle.flux_model.specs.Lines.{whole}
 use Rattle.flux_model.specs.LentLine.{seen_line}
 use Rattle.file_reading.proofs.FileLemmas.{told_at_first, piece_len, lines_fit, some_lines_fit, taken-last, one-line, FileRead-next, ReadAs-none, ReadAs-end, ReadAs-longer, StopWhere-refused, StopWhere-last}
+use Rattle.file_reading.proofs.AskedLemmas.{asks-well, lines-reads_not, taken-reads_not, FileRead-unrefused}
 use Rattle.file_reading.proofs.files.read_file.Goals as goal
 
 pub returns-in-Ok-None-clause-stop : goal.returns-in-Ok-None-clause-stop
@@ -35,6 +38,7 @@ returns-in_err-number-clause-stop g c =
 pub loop-count-preserved : goal.loop-count-preserved
 loop-count-preserved g c =
     let bound : c.in-Ok-Some.count ≤ length c.read.new.buf = rw c.in-Ok-Some.field-0-is at c.in-Ok-Some.ensures.bound in
+    let asked : length c.read.new.buf ≡ c.ask_for.result = grind (arith, common_steps) in
     record {
       within = omega (arith, c.if-count-room.false, c.loop-count.invariant.within);
       buffer = c.loop-count.invariant.buffer;
@@ -45,6 +49,8 @@ loop-count-preserved g c =
       ready = c.in_ok-number.ensures.ready;
       same = c.in-Ok-Some.ensures.same ∙ c.loop-count.invariant.same;
       later = omega (arith, c.loop-count.invariant.later, c.in-Ok-Some.ensures.cause.later);
+      asked = file-gave c.args.limits.now.input_bytes c.loop-count.given _ (Bytes c.in-Ok-Some.count) c.args.name.now _ _ _ c.loop-count.invariant.asked (rw c.in-Ok-Some.field-0-is at c.in-Ok-Some.ensures.asked)
+          (asks-well c.args.limits.now.input_bytes c.loop-count.given _ c.ask_for.result (Bytes c.in-Ok-Some.count) (grind (arith, common_steps)) c.loop-count.invariant.within c.ask_for.ensures.some c.ask_for.ensures.fits c.ask_for.ensures.within (omega (arith, bound, asked))) (omega (arith, c.if-count-eq0.false));
     }
 
 pub returns-in-None-clause-ok : goal.returns-in-None-clause-ok
@@ -84,3 +90,56 @@ returns-clause-stop g c =
     (told_at_first _ _ c.args.name.now c.read.new.buf c.in-Ok-Some.field-0 c.loop-count.given c.in-Ok-Some.count c.loop-count.invariant.same c.in-Ok-Some.field-0-is c.in-Ok-Some.ensures.bytes)
     (omega (arith, c.if-count-eq0.true)) (grind (arith, common_steps)) c.loop-count.invariant.within c.in-Some.ensures.lines stopped)
     c.take_line.ensures.stop
+
+-- ---- what was asked
+
+pub returns-in-Ok-None-clause-asked : goal.returns-in-Ok-None-clause-asked
+returns-in-Ok-None-clause-asked g c =
+    file-last c.args.limits.now.input_bytes c.loop-count.given _ NoFile c.args.name.now _ _ _ _ _ _ c.loop-count.invariant.asked (rw c.in-Ok-None.field-0-is at c.in-Ok-None.ensures.asked)
+    (asks-well c.args.limits.now.input_bytes c.loop-count.given _ c.ask_for.result NoFile (grind (arith, common_steps)) c.loop-count.invariant.within c.ask_for.ensures.some c.ask_for.ensures.fits c.ask_for.ensures.within (omega arith)) (λ h. absurd h) (λ h. absurd h)
+
+pub returns-in-Err-clause-asked : goal.returns-in-Err-clause-asked
+returns-in-Err-clause-asked g c =
+    file-last c.args.limits.now.input_bytes c.loop-count.given _ Fault c.args.name.now _ _ _ _ _ _ c.loop-count.invariant.asked c.in-Err.ensures.asked
+    (asks-well c.args.limits.now.input_bytes c.loop-count.given _ c.ask_for.result Fault (grind (arith, common_steps)) c.loop-count.invariant.within c.ask_for.ensures.some c.ask_for.ensures.fits c.ask_for.ensures.within (omega arith))
+    (λ h. (refl, FileRead-unrefused g.T.TakeLine.after_line c.args.limits.now.line_bytes c.loop-count.given _ _ _ _ _ _ c.loop-count.invariant.read)) (λ h. absurd h)
+
+pub returns-then-count-room-clause-asked : goal.returns-then-count-room-clause-asked
+returns-then-count-room-clause-asked g c =
+    let bound : c.in-Ok-Some.count ≤ length c.read.new.buf = rw c.in-Ok-Some.field-0-is at c.in-Ok-Some.ensures.bound in
+    let asked : length c.read.new.buf ≡ c.ask_for.result = grind (arith, common_steps) in
+    file-last c.args.limits.now.input_bytes c.loop-count.given _ (Bytes c.in-Ok-Some.count) c.args.name.now _ _ _ _ _ _ c.loop-count.invariant.asked (rw c.in-Ok-Some.field-0-is at c.in-Ok-Some.ensures.asked)
+    (asks-well c.args.limits.now.input_bytes c.loop-count.given _ c.ask_for.result (Bytes c.in-Ok-Some.count) (grind (arith, common_steps)) c.loop-count.invariant.within c.ask_for.ensures.some c.ask_for.ensures.fits c.ask_for.ensures.within (omega (arith, bound, asked))) (λ h. absurd h) (λ h. absurd h)
+
+pub returns-in_default-push-clause-asked : goal.returns-in_default-push-clause-asked
+returns-in_default-push-clause-asked g c =
+    let bound : c.in-Ok-Some.count ≤ length c.read.new.buf = rw c.in-Ok-Some.field-0-is at c.in-Ok-Some.ensures.bound in
+    let asked : length c.read.new.buf ≡ c.ask_for.result = grind (arith, common_steps) in
+    file-last c.args.limits.now.input_bytes c.loop-count.given _ (Bytes c.in-Ok-Some.count) c.args.name.now _ _ _ _ _ _ c.loop-count.invariant.asked (rw c.in-Ok-Some.field-0-is at c.in-Ok-Some.ensures.asked)
+    (asks-well c.args.limits.now.input_bytes c.loop-count.given _ c.ask_for.result (Bytes c.in-Ok-Some.count) (grind (arith, common_steps)) c.loop-count.invariant.within c.ask_for.ensures.some c.ask_for.ensures.fits c.ask_for.ensures.within (omega (arith, bound, asked))) (λ h. absurd h) (λ h. absurd h)
+
+pub returns-in_err-number-clause-asked : goal.returns-in_err-number-clause-asked
+returns-in_err-number-clause-asked g c =
+    let p = err_from_is_err_and c.from_residual.result c.from_residual.ensures.1 in
+    let bound : c.in-Ok-Some.count ≤ length c.read.new.buf = rw c.in-Ok-Some.field-0-is at c.in-Ok-Some.ensures.bound in
+    let asked : length c.read.new.buf ≡ c.ask_for.result = grind (arith, common_steps) in
+    rw (p.1, p.2) (file-last c.args.limits.now.input_bytes c.loop-count.given _ (Bytes c.in-Ok-Some.count) c.args.name.now _ _ _ _ _ _ c.loop-count.invariant.asked (rw c.in-Ok-Some.field-0-is at c.in-Ok-Some.ensures.asked)
+    (asks-well c.args.limits.now.input_bytes c.loop-count.given _ c.ask_for.result (Bytes c.in-Ok-Some.count) (grind (arith, common_steps)) c.loop-count.invariant.within c.ask_for.ensures.some c.ask_for.ensures.fits c.ask_for.ensures.within (omega (arith, bound, asked)))
+    (λ h. absurd (lines-reads_not _ _ c.in_err-number.ensures.stop h)) (λ h. absurd h))
+
+pub returns-in-None-clause-asked : goal.returns-in-None-clause-asked
+returns-in-None-clause-asked g c =
+    let none : c.in-Ok-Some.count ≡ 0 = omega (arith, c.if-count-eq0.true) in
+    let bound : c.in-Ok-Some.count ≤ length c.read.new.buf = rw c.in-Ok-Some.field-0-is at c.in-Ok-Some.ensures.bound in
+    let asked : length c.read.new.buf ≡ c.ask_for.result = grind (arith, common_steps) in
+    file-last c.args.limits.now.input_bytes c.loop-count.given _ (Bytes c.in-Ok-Some.count) c.args.name.now _ _ _ _ _ _ c.loop-count.invariant.asked (rw c.in-Ok-Some.field-0-is at c.in-Ok-Some.ensures.asked)
+    (asks-well c.args.limits.now.input_bytes c.loop-count.given _ c.ask_for.result (Bytes c.in-Ok-Some.count) (grind (arith, common_steps)) c.loop-count.invariant.within c.ask_for.ensures.some c.ask_for.ensures.fits c.ask_for.ensures.within (omega (arith, bound, asked))) (λ h. absurd h) (λ h. ap Bytes none)
+
+pub returns-clause-asked : goal.returns-clause-asked
+returns-clause-asked g c =
+    let none : c.in-Ok-Some.count ≡ 0 = omega (arith, c.if-count-eq0.true) in
+    let bound : c.in-Ok-Some.count ≤ length c.read.new.buf = rw c.in-Ok-Some.field-0-is at c.in-Ok-Some.ensures.bound in
+    let asked : length c.read.new.buf ≡ c.ask_for.result = grind (arith, common_steps) in
+    file-last c.args.limits.now.input_bytes c.loop-count.given _ (Bytes c.in-Ok-Some.count) c.args.name.now _ _ _ _ _ _ c.loop-count.invariant.asked (rw c.in-Ok-Some.field-0-is at c.in-Ok-Some.ensures.asked)
+    (asks-well c.args.limits.now.input_bytes c.loop-count.given _ c.ask_for.result (Bytes c.in-Ok-Some.count) (grind (arith, common_steps)) c.loop-count.invariant.within c.ask_for.ensures.some c.ask_for.ensures.fits c.ask_for.ensures.within (omega (arith, bound, asked)))
+    (λ h. absurd (taken-reads_not c.take_line.result _ c.take_line.ensures.stop h)) (λ h. ap Bytes none)

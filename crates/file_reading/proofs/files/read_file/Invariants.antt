@@ -1,4 +1,6 @@
 use Rattle.std.proofs.Common.{◌≡◌, ◌≤◌, ◌-◌, false, vec_len}
+use Rattle.flux_outside.specs.Reads.{FileReads}
+use Rattle.flux_outside.proofs.ReadsLemmas.{Asking}
 use Rattle.file_reading.specs.FileProgress.{FileRead}
 use Rattle.file_reading.proofs.files.read_file.Given as goal
 
@@ -10,6 +12,7 @@ invariant-loop-count g l = record {
   ready : g.T.TakeLine.is_spent l.file ≡ false;
   same : g.F.Shelf.files l.shelf ≡ g.F.Shelf.files l.fn.shelf;
   later : g.F.Shelf.faults l.fn.shelf ≤ g.F.Shelf.faults l.shelf;
+  asked : Asking l.limits.input_bytes l.given (FileReads l.name (g.F.Shelf.reads l.fn.shelf) (g.F.Shelf.reads l.shelf));
 }
 
 abbrev pub decreases-loop-count : goal.decreases-loop-count
