@@ -4,3 +4,4 @@ pub mod EmbeddingsLemmas
 pub mod SessionLemmas
 pub mod AnswersLemmas
 pub mod TopLemmas
+pub mod AskedByRunLemmas

@@ -7,3 +7,4 @@ pub mod ReportProgress
 pub mod UpdatesProgress
 pub mod RunEnds
 pub mod EarlyEnds
+pub mod AskedByRun

@@ -2,11 +2,13 @@
 ghost use Rattle.std.specs.Prelude.{◌≡◌, ◌≤◌, ◌++◌, Some, List, ℕ, Option, OnOk, OnErr, IfErr};
 ghost use Rattle.std.specs.Io.KnownBytes.{Appends};
 ghost use Rattle.flux_outside.specs.Causes.{Rose};
+ghost use Rattle.flux_outside.specs.Reads.{Read, NoEmptyPut};
 ghost use Rattle.flux_outside.specs.Told.{AppendsFront};
 ghost use Rattle.flux_model.specs.Graph.{empty_graph};
 ghost use Rattle.flux_model.specs.Limits.{IsFair};
 ghost use Rattle.flux_model.specs.Report.{match_text};
 ghost use Rattle.flux_model.specs.Verdict.{Match, Done};
+ghost use Rattle.watch_cli.specs.AskedByRun.{EndsAtReadFault, AskedByRun};
 ghost use Rattle.watch_cli.specs.RunEnds.{RunEndsAs, RunEndsBefore, ReadFails, StatusWhere};
 ghost use Rattle.watch_cli.specs.EarlyEnds.{IsEarly, WriteEnds};
 
@@ -46,6 +48,9 @@ pub fn list_answers<F: Shelf, G: KeepGraph + ReadGraph<L>, W: Sink, L: Ledger>(
         (F.faults shelf.old) (F.faults shelf.new) read read left left (W.taken out.old) (W.taken out.new))
         (Rose (W.faults out.old) (W.faults out.new))) }
     ensures early { IfErr result IsEarly }
+    ensures asked { (updates : List Read) → AskedByRun limits.now (F.files shelf.old) (Match graph_name.now patterns_name.now)
+        (EndsAtReadFault result) (F.reads shelf.old) (F.reads shelf.new) updates updates }
+    ensures puts { NoEmptyPut (W.puts out.old) (W.puts out.new) }
 {
     let graph = match read_store(alloc, limits, shelf, graph_name, empty) {
         Ok(graph) => graph,
@@ -69,6 +74,7 @@ fn put_answers<G: ReadGraph<L>, W: Sink, L: Ledger>(
     ensures ok { OnOk result (Appends (W.taken out.old) (W.taken out.new) (match_text (G.graph graph.now) patterns)) }
     ensures err { OnErr result (AppendsFront (W.taken out.old) (W.taken out.new) (match_text (G.graph graph.now) patterns)) }
     ensures status { IfErr result (WriteEnds (W.faults out.old) (W.faults out.new)) }
+    ensures puts { NoEmptyPut (W.puts out.old) (W.puts out.new) }
 {
     let mut text = Vec::new(alloc);
     let Ok(()) = write_all(alloc, patterns, graph, &mut text, steps) else {

@@ -20,6 +20,8 @@ impl Sink for CountingSink<'_> {
 
     ghost taken = { λ _. None };
 
+    ghost puts = { λ s. s.sink.puts };
+
     ghost faults = { λ s. s.sink.faults };
 
     fn put(&mut self, piece: &[u8]) -> Result<(), Failed> {
@@ -43,6 +45,8 @@ impl Source for NotingSource<'_> {
     ghost use Rattle.std.specs.Prelude.{None};
 
     ghost left = { λ _. None };
+
+    ghost reads = { λ s. s.source.reads };
 
     ghost faults = { λ s. s.source.faults };
 

@@ -1,6 +1,7 @@
 //! Blocks are gathered in a report, which is put when it is long, and before the next read.
 ghost use Rattle.std.specs.Prelude.{◌≡◌, ◌≤◌, ◌<◌, ◌+◌, ◌^◌, ◌++◌, [], length, OnOk, OnErr, IfErr};
 ghost use Rattle.std.specs.Io.KnownBytes.{Appends};
+ghost use Rattle.flux_outside.specs.Reads.{NoEmptyPut};
 ghost use Rattle.flux_outside.specs.Told.{AppendsFront};
 ghost use Rattle.flux_model.specs.LentLine.{seen_line};
 ghost use Rattle.flux_model.specs.Reading.{update_reading};
@@ -26,6 +27,7 @@ pub fn put_report<W: Sink>(report: &mut Vec<u8>, out: &mut W) -> Result<(), Stat
     ensures err { OnErr result (AppendsFront (W.taken out.old) (W.taken out.new) report.old.items) }
     ensures later { W.faults out.old ≤ W.faults out.new }
     ensures status { IfErr result (WriteEnds (W.faults out.old) (W.faults out.new)) }
+    ensures puts { NoEmptyPut (W.puts out.old) (W.puts out.new) }
 {
     if report.is_empty() {
         return Ok(());
@@ -55,6 +57,7 @@ pub fn report_line<W: Sink>(
         (report.old.items ++ next_block session.old (update_reading (seen_line line.now)))) }
     ensures later { W.faults out.old ≤ W.faults out.new }
     ensures status { IfErr result (WriteEnds (W.faults out.old) (W.faults out.new)) }
+    ensures puts { NoEmptyPut (W.puts out.old) (W.puts out.new) }
 {
     let Ok(()) = session.line(alloc, line, report) else {
         let _ = put_report(report, out);
@@ -83,6 +86,7 @@ pub fn report_waiting<W: Sink>(
     ensures err { OnErr result (AppendsFront (W.taken out.old) (W.taken out.new) (next_blocks session.old (said_by lines.old.queue))) }
     ensures later { W.faults out.old ≤ W.faults out.new }
     ensures status { IfErr result (WriteEnds (W.faults out.old) (W.faults out.new)) }
+    ensures puts { NoEmptyPut (W.puts out.old) (W.puts out.new) }
 {
     while let Some(line) = lines.first() {
         report_line(alloc, session, &line, report, out)?;
@@ -105,6 +109,7 @@ pub fn report_end<W: Sink>(
     ensures err { OnErr result (AppendsFront (W.taken out.old) (W.taken out.new) (last_text session.old (said_by (one_line last.entry)))) }
     ensures later { W.faults out.old ≤ W.faults out.new }
     ensures status { IfErr result (WriteEnds (W.faults out.old) (W.faults out.new)) }
+    ensures puts { NoEmptyPut (W.puts out.old) (W.puts out.new) }
 {
     match last {
         None => end_report(session, report, out),
@@ -121,6 +126,7 @@ fn end_report<W: Sink>(session: &Session, report: &mut Vec<u8>, out: &mut W) -> 
     ensures err { OnErr result (AppendsFront (W.taken out.old) (W.taken out.new) (report.old.items ++ end_text session.now)) }
     ensures later { W.faults out.old ≤ W.faults out.new }
     ensures status { IfErr result (WriteEnds (W.faults out.old) (W.faults out.new)) }
+    ensures puts { NoEmptyPut (W.puts out.old) (W.puts out.new) }
 {
     let Ok(()) = session.end(report) else {
         let _ = put_report(report, out);

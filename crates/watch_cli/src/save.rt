@@ -2,11 +2,13 @@
 ghost use Rattle.std.specs.Prelude.{◌≡◌, ◌≤◌, Some, List, ℕ, Option, OnOk, OnErr, IfErr};
 ghost use Rattle.std.specs.Io.KnownBytes.{Appends};
 ghost use Rattle.flux_outside.specs.Causes.{Rose};
+ghost use Rattle.flux_outside.specs.Reads.{Read, NoEmptyPut};
 ghost use Rattle.flux_outside.specs.Told.{AppendsFront};
 ghost use Rattle.flux_model.specs.Graph.{empty_graph};
 ghost use Rattle.flux_model.specs.GraphText.{graph_text};
 ghost use Rattle.flux_model.specs.Limits.{IsFair};
 ghost use Rattle.flux_model.specs.Verdict.{Save, Done};
+ghost use Rattle.watch_cli.specs.AskedByRun.{EndsAtReadFault, AskedByRun};
 ghost use Rattle.watch_cli.specs.RunEnds.{RunEndsAs, RunEndsBefore, ReadFails, StatusWhere};
 ghost use Rattle.watch_cli.specs.EarlyEnds.{IsEarly, WriteEnds};
 
@@ -42,6 +44,9 @@ pub fn save_graph<F: Shelf, G: KeepGraph + ReadGraph<L>, W: Sink, L: Ledger>(
         (F.faults shelf.old) (F.faults shelf.new) read read left left (W.taken out.old) (W.taken out.new))
         (Rose (W.faults out.old) (W.faults out.new))) }
     ensures early { IfErr result IsEarly }
+    ensures asked { (updates : List Read) → AskedByRun limits.now (F.files shelf.old) (Save name.now) (EndsAtReadFault result)
+        (F.reads shelf.old) (F.reads shelf.new) updates updates }
+    ensures puts { NoEmptyPut (W.puts out.old) (W.puts out.new) }
 {
     let graph = match read_store(alloc, limits, shelf, name, empty) {
         Ok(graph) => graph,
@@ -61,6 +66,7 @@ fn put_graph<G: ReadGraph<L>, W: Sink, L: Ledger>(
     ensures err { OnErr result (AppendsFront (W.taken out.old) (W.taken out.new) (graph_text (G.graph graph.now))) }
     ensures later { W.faults out.old ≤ W.faults out.new }
     ensures status { IfErr result (WriteEnds (W.faults out.old) (W.faults out.new)) }
+    ensures puts { NoEmptyPut (W.puts out.old) (W.puts out.new) }
 {
     let mut text = Vec::new(alloc);
     let Ok(()) = write_graph(alloc, graph, &mut text, steps) else {

@@ -1,12 +1,14 @@
 //! The one call that the program makes.
-ghost use Rattle.std.specs.Prelude.{◌≡◌, ◌⊎◌, ◌↔◌, [], None, Some, IsOk, ⊤, OnOk, IfErr, IfSome, MatchOption};
+ghost use Rattle.std.specs.Prelude.{◌≡◌, ◌⊎◌, ◌↔◌, [], None, Some, IsOk, IsErr, ⊤, OnOk, IfErr, IfSome, MatchOption};
 ghost use Rattle.std.specs.Io.KnownBytes.{Appends, IsAtEnd};
 ghost use Rattle.flux_outside.specs.Causes.{Rose};
+ghost use Rattle.flux_outside.specs.Reads.{NoEmptyPut};
 ghost use Rattle.flux_outside.specs.Told.{AppendsFront};
 ghost use Rattle.flux_model.specs.Limits.{IsFair};
 ghost use Rattle.flux_model.specs.Verdict.{shape_of, verdict, due, Done};
 ghost use Rattle.watch_cli.specs.CommandWords.{seen_shape, texts, ReadsUpdates};
 ghost use Rattle.watch_cli.specs.Status.{status_text};
+ghost use Rattle.watch_cli.specs.AskedByRun.{IsReadStatus, IsFileStatus, EndsAtReadFault, EndsAtFile, AskedByRun};
 ghost use Rattle.watch_cli.specs.RunEnds.{KnownOrSome, verdict_of, inputs, written_of, OneRose, EndsAtFault};
 ghost use Rattle.watch_cli.specs.RunEnds.{RunEndsAs, RunEndsBefore, ReadFails, StatusWhere};
 ghost use Rattle.watch_cli.specs.EarlyEnds.{IsEarly};
@@ -59,6 +61,11 @@ fn work<F: Shelf, S: Source, W: Sink, L: Ledger>(
         (S.left updates.old) (S.left updates.new) (W.taken out.old) (W.taken out.new))
         (Rose (W.faults out.old) (W.faults out.new))) }
     ensures early { IfErr result IsEarly }
+    ensures asked { AskedByRun limits.now (F.files shelf.old) (seen_shape shape.entry) (EndsAtReadFault result)
+        (F.reads shelf.old) (F.reads shelf.new) (S.reads updates.old) (S.reads updates.new) }
+    ensures untouched { (updates.new ≡ updates.old) ⊎ (¬ EndsAtFile result
+        × IfSome (F.files shelf.old) (λ m. IsOk (inputs limits.now m (Some (seen_shape shape.entry))))) }
+    ensures puts { NoEmptyPut (W.puts out.old) (W.puts out.new) }
 {
     match shape {
         Shape::Watch { graph, patterns } => {
@@ -99,6 +106,12 @@ fn judge<F: Shelf, S: Source, W: Sink, L: Ledger>(
         (F.faults shelf.old) (F.faults shelf.new) (S.faults updates.old) (S.faults updates.new)
         (S.left updates.old) (S.left updates.new) (W.taken out.old) (W.taken out.new))
         (Rose (W.faults out.old) (W.faults out.new)) result }
+    ensures asked { MatchOption (shape_of (texts words.now)) (F.reads shelf.new ≡ F.reads shelf.old)
+        (λ shape. AskedByRun limits.now (F.files shelf.old) shape (IsReadStatus result)
+        (F.reads shelf.old) (F.reads shelf.new) (S.reads updates.old) (S.reads updates.new)) }
+    ensures untouched { (updates.new ≡ updates.old) ⊎ (¬ IsFileStatus result
+        × IfSome (F.files shelf.old) (λ m. IsOk (inputs limits.now m (shape_of (texts words.now))))) }
+    ensures puts { NoEmptyPut (W.puts out.old) (W.puts out.new) }
 {
     let Some(shape) = parse_shape(words) else {
         return Status::Usage;
@@ -111,8 +124,9 @@ fn judge<F: Shelf, S: Source, W: Sink, L: Ledger>(
 
 /// Tells the status, if it has a text. Nothing more is said of a failure.
 fn tell<E: Sink>(status: Status, err: &mut E)
-    ensures { Appends (E.taken err.old) (E.taken err.new) (status_text status)
+    ensures told { Appends (E.taken err.old) (E.taken err.new) (status_text status)
         ⊎ (Rose (E.faults err.old) (E.faults err.new) × AppendsFront (E.taken err.old) (E.taken err.new) (status_text status)) }
+    ensures puts { NoEmptyPut (E.puts err.old) (E.puts err.new) }
 {
     let text = status.text();
     let bytes = text.as_bytes();
@@ -166,6 +180,13 @@ pub fn run<F: Shelf, S: Source, W: Sink, E: Sink, L: Ledger>(
         (λ shape. ¬ ReadsUpdates shape → updates.new ≡ updates.old) }
     ensures told { Appends (E.taken err.old) (E.taken err.new) (status_text result.status)
         ⊎ (Rose (E.faults err.old) (E.faults err.new) × AppendsFront (E.taken err.old) (E.taken err.new) (status_text result.status)) }
+    ensures asked { MatchOption (shape_of (texts words.now)) (F.reads shelf.new ≡ F.reads shelf.old)
+        (λ shape. AskedByRun limits.now (F.files shelf.old) shape (result.status ≡ Status.ReadFault)
+        (F.reads shelf.old) (F.reads shelf.new) (S.reads updates.old) (S.reads updates.new)) }
+    ensures untouched { IsFileStatus result.status → updates.new ≡ updates.old }
+    ensures unaccepted { IfSome (F.files shelf.old) (λ m.
+        IsErr (inputs limits.now m (shape_of (texts words.now))) → updates.new ≡ updates.old) }
+    ensures puts { NoEmptyPut (W.puts out.old) (W.puts out.new) × NoEmptyPut (E.puts err.old) (E.puts err.new) }
 {
     let status = judge(alloc, words, limits, shelf, updates, out, steps);
     tell(status, err);

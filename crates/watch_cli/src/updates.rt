@@ -1,9 +1,12 @@
 //! The updates, read piece by piece.
-ghost use Rattle.std.specs.Prelude.{◌≡◌, OnOk, OnErr, IfErr};
+ghost use Rattle.std.specs.Prelude.{◌≡◌, ⊤, OnOk, OnErr, IfErr};
 ghost use Rattle.std.specs.Io.KnownBytes.{IsAtEnd};
 ghost use Rattle.flux_outside.specs.Causes.{Rose};
+ghost use Rattle.flux_outside.specs.Reads.{AskedOfInput, SourceReads, NoEmptyPut};
 ghost use Rattle.flux_model.specs.Limits.{IsFair};
 ghost use Rattle.flux_model.specs.Verdict.{Watched, Done, ending_with, written_before};
+ghost use Rattle.file_reading.specs.AskedOfFile.{WentOn};
+ghost use Rattle.watch_cli.specs.AskedByRun.{EndsAtReadFault, EndsAtFile};
 ghost use Rattle.watch_cli.specs.RunEnds.{EndsAs, EndsBefore, EndsAtFault, StatusWhere};
 ghost use Rattle.watch_cli.specs.EarlyEnds.{IsEarly};
 ghost use Rattle.watch_cli.specs.Session.{first_state};
@@ -39,6 +42,10 @@ pub fn follow<S: Source, W: Sink>(
         (written_before limits.now (Watched session.old.graph session.old.patterns)) (W.taken out.old) (W.taken out.new))
         (Rose (W.faults out.old) (W.faults out.new))) }
     ensures early { IfErr result IsEarly }
+    ensures asked { AskedOfInput limits.now.input_bytes (EndsAtReadFault result) (WentOn result) (λ _. ⊤)
+        (SourceReads (S.reads updates.old) (S.reads updates.new)) }
+    ensures no_file { ¬ EndsAtFile result }
+    ensures puts { NoEmptyPut (W.puts out.old) (W.puts out.new) }
 {
     let mut lines = Lines::new(alloc, limits.line_bytes);
     let mut report = Vec::new(alloc);

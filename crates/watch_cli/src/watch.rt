@@ -1,9 +1,11 @@
 //! `watch`: both files are read, and then the updates are dealt with.
-ghost use Rattle.std.specs.Prelude.{Some, OnOk, IfErr};
+ghost use Rattle.std.specs.Prelude.{◌≡◌, ◌⊎◌, IsOk, Some, OnOk, IfErr, IfSome};
 ghost use Rattle.std.specs.Io.KnownBytes.{IsAtEnd};
 ghost use Rattle.flux_outside.specs.Causes.{Rose};
+ghost use Rattle.flux_outside.specs.Reads.{NoEmptyPut};
 ghost use Rattle.flux_model.specs.Limits.{IsFair};
-ghost use Rattle.flux_model.specs.Verdict.{Watch, Done};
+ghost use Rattle.flux_model.specs.Verdict.{Watch, Done, accepted};
+ghost use Rattle.watch_cli.specs.AskedByRun.{EndsAtReadFault, EndsAtFile, AskedByRun};
 ghost use Rattle.watch_cli.specs.RunEnds.{RunEndsAs, RunEndsBefore, ReadFails, StatusWhere};
 ghost use Rattle.watch_cli.specs.EarlyEnds.{IsEarly};
 
@@ -39,6 +41,11 @@ pub fn watch_updates<F: Shelf, S: Source, W: Sink>(
         (S.left updates.old) (S.left updates.new) (W.taken out.old) (W.taken out.new))
         (Rose (W.faults out.old) (W.faults out.new))) }
     ensures early { IfErr result IsEarly }
+    ensures asked { AskedByRun limits.now (F.files shelf.old) (Watch graph_name.now patterns_name.now) (EndsAtReadFault result)
+        (F.reads shelf.old) (F.reads shelf.new) (S.reads updates.old) (S.reads updates.new) }
+    ensures untouched { (updates.new ≡ updates.old) ⊎ (¬ EndsAtFile result
+        × IfSome (F.files shelf.old) (λ m. IsOk (accepted limits.now m (Watch graph_name.now patterns_name.now)))) }
+    ensures puts { NoEmptyPut (W.puts out.old) (W.puts out.new) }
 {
     let graph = match read_graph(alloc, limits, shelf, graph_name) {
         Ok(graph) => graph,

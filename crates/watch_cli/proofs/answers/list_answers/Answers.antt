@@ -9,6 +9,7 @@ use Rattle.watch_cli.specs.declared.status.InputFile.TheVariants.{Graph, Pattern
 use Rattle.watch_cli.proofs.ReportLemmas.{put_either}
 use Rattle.watch_cli.proofs.TopLemmas.{Judged, both-judged, graph-judged, patterns-judged, run-before, run-ends, run-ends_before, text-put, text-front, file-ends, put-ends}
 use Rattle.watch_cli.proofs.FollowLemmas.{write-early}
+use Rattle.watch_cli.proofs.AskedByRunLemmas.{ended-stopped, asked-graph, asked-patterns, written-reads_not}
 use Rattle.watch_cli.proofs.answers.list_answers.Goals as goal
 
 pub returns-in-Err-clause-front : goal.returns-in-Err-clause-front
@@ -76,3 +77,18 @@ returns-clause-status g c =
 
 pub returns-clause-early : goal.returns-clause-early
 returns-clause-early g c = IfErr-weaker c.put_answers.result _ _ (λ s so. write-early (g.W.Sink.faults c.args.out.now) (g.W.Sink.faults c.put_answers.new.out) s so) c.put_answers.ensures.status
+
+pub returns-in-Err-clause-asked : goal.returns-in-Err-clause-asked
+returns-in-Err-clause-asked g c =
+    rw c.of.ensures.status (λ updates. asked-graph c.args.limits.now (g.F.Shelf.files c.args.shelf.now) (Match c.args.graph_name.now c.args.patterns_name.now) _ _ _
+    (g.F.Shelf.reads c.args.shelf.now) (g.F.Shelf.reads c.read_store.new.shelf) updates (ended-stopped Graph c.in-Err.stop) refl c.in-Err.ensures.asked)
+
+pub returns-in-Err-read_patterns-clause-asked : goal.returns-in-Err-read_patterns-clause-asked
+returns-in-Err-read_patterns-clause-asked g c =
+    rw c.of-in-Err-read_patterns.ensures.status (λ updates. asked-patterns c.args.limits.now (g.F.Shelf.files c.args.shelf.now) (Match c.args.graph_name.now c.args.patterns_name.now) _ (g.F.Shelf.files c.read_store.new.shelf) _ _ _ _
+    (g.F.Shelf.reads c.args.shelf.now) (g.F.Shelf.reads c.read_store.new.shelf) (g.F.Shelf.reads c.read_patterns.new.shelf) updates c.in-Ok.ensures.same tt (ended-stopped Patterns c.in-Err-read_patterns.stop) (λ ps. refl) c.in-Ok.ensures.asked c.in-Err-read_patterns.ensures.asked)
+
+pub returns-clause-asked : goal.returns-clause-asked
+returns-clause-asked g c =
+    λ updates. asked-patterns c.args.limits.now (g.F.Shelf.files c.args.shelf.now) (Match c.args.graph_name.now c.args.patterns_name.now) _ (g.F.Shelf.files c.read_store.new.shelf) _ _ _ _
+    (g.F.Shelf.reads c.args.shelf.now) (g.F.Shelf.reads c.read_store.new.shelf) (g.F.Shelf.reads c.read_patterns.new.shelf) updates c.in-Ok.ensures.same tt (written-reads_not c.put_answers.result _ _ c.put_answers.ensures.status) (λ ps. refl) c.in-Ok.ensures.asked c.in-Ok-read_patterns.ensures.asked

@@ -2,6 +2,7 @@ use Rattle.std.proofs.lemmas.Result.{err_from_is_err_and, on_ok_weaker, on_err_w
 use Rattle.flux_model.specs.Reading.{update_reading}
 use Rattle.flux_model.specs.LentLine.{seen_line}
 use Rattle.watch_cli.proofs.ReportLemmas.{last_put, last_short, last_stopped, none_put, none_short}
+use Rattle.flux_outside.proofs.ReadsLemmas.{NoEmptyPut-trans}
 use Rattle.watch_cli.proofs.report.report_end.Goals as goal
 
 pub returns-in-None-clause-ok : goal.returns-in-None-clause-ok
@@ -26,3 +27,6 @@ returns-in_ok-report_line-in-Some-clause-err g c =
     rw c.in-Some.is (on_err_weaker c.end_report-in-Some.result
     (last_short _ _ _ c.args.report.now.items c.report_line.new.report.items c.args.session.now c.report_line.new.session (update_reading (seen_line c.in-Some.line)) c.requires.empty c.in_ok-report_line-in-Some.ensures.ok c.in_ok-report_line-in-Some.ensures.after)
     c.end_report-in-Some.ensures.err)
+
+pub returns-in_ok-report_line-in-Some-clause-puts : goal.returns-in_ok-report_line-in-Some-clause-puts
+returns-in_ok-report_line-in-Some-clause-puts g c = NoEmptyPut-trans _ _ _ c.in_ok-report_line-in-Some.ensures.puts c.end_report-in-Some.ensures.puts

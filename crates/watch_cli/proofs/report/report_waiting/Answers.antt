@@ -4,6 +4,7 @@ use Rattle.flux_model.specs.Lines.{InputLine}
 use Rattle.flux_model.specs.LentLine.{seen_line}
 use Rattle.watch_cli.specs.Session.{WatchState, said_by}
 use Rattle.watch_cli.proofs.ReportLemmas.{Reported, Reported-turn, Reported-stops, Reported-end_short, one_less, nothing_waits}
+use Rattle.flux_outside.proofs.ReadsLemmas.{NoEmptyPut-trans}
 use Rattle.watch_cli.proofs.report.report_waiting.Goals as goal
 
 pub returns-in_err-report_line-clause-err : goal.returns-in_err-report_line-clause-err
@@ -20,6 +21,7 @@ loop-line-preserved g c =
       count = rw c.pass.ensures (omega (arith, one, less, c.loop-line.invariant.count));
       same = rw (c.pass.ensures, c.loop-line.invariant.same) refl;
       later = omega (arith, c.loop-line.invariant.later, c.in_ok-report_line.ensures.later);
+      puts = NoEmptyPut-trans _ _ _ c.loop-line.invariant.puts c.in_ok-report_line.ensures.puts;
     }
 
 pub returns-clause-err : goal.returns-clause-err
@@ -29,3 +31,9 @@ returns-clause-err g c =
     (λ front. Reported-end_short _ _ _ c.loop-line.report.items _ c.loop-line.session _
     (subst (λ (q : List InputLine). Reported (g.W.Sink.taken c.args.out.now) (g.W.Sink.taken c.loop-line.out) c.loop-line.report.items c.args.session.now c.loop-line.session (said_by c.args.lines.now.queue) (said_by q)) none c.loop-line.invariant.reported) front)
     c.put_report.ensures.err
+
+pub returns-in_err-report_line-clause-puts : goal.returns-in_err-report_line-clause-puts
+returns-in_err-report_line-clause-puts g c = NoEmptyPut-trans _ _ _ c.loop-line.invariant.puts c.in_err-report_line.ensures.puts
+
+pub returns-clause-puts : goal.returns-clause-puts
+returns-clause-puts g c = NoEmptyPut-trans _ _ _ c.loop-line.invariant.puts c.put_report.ensures.puts

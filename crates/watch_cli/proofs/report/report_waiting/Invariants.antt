@@ -1,4 +1,5 @@
 use Rattle.std.proofs.Common.{◌≡◌, ◌≤◌, ◌+◌, length}
+use Rattle.flux_outside.specs.Reads.{NoEmptyPut}
 use Rattle.watch_cli.specs.Session.{said_by}
 use Rattle.watch_cli.proofs.ReportLemmas.{Reported}
 use Rattle.watch_cli.proofs.report.report_waiting.Given as goal
@@ -10,6 +11,7 @@ invariant-loop-line g l = record {
   count : l.session.lines + length l.lines.queue ≡ l.fn.session.lines + length l.fn.lines.queue;
   same : l.lines ≡ record l.fn.lines { queue = l.lines.queue };
   later : g.W.Sink.faults l.fn.out ≤ g.W.Sink.faults l.out;
+  puts : NoEmptyPut (g.W.Sink.puts l.fn.out) (g.W.Sink.puts l.out);
 }
 
 abbrev pub decreases-loop-line : goal.decreases-loop-line

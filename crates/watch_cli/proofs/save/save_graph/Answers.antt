@@ -9,6 +9,7 @@ use Rattle.watch_cli.specs.declared.status.InputFile.TheVariants.{Graph}
 use Rattle.watch_cli.proofs.ReportLemmas.{put_either}
 use Rattle.watch_cli.proofs.TopLemmas.{save-judged, save-refused, run-before, file-ends, run-ends, run-ends_before, text-put, text-front, put-ends}
 use Rattle.watch_cli.proofs.FollowLemmas.{write-early}
+use Rattle.watch_cli.proofs.AskedByRunLemmas.{ended-stopped, asked-graph, written-reads_not}
 use Rattle.watch_cli.proofs.save.save_graph.Goals as goal
 
 pub returns-in-Err-clause-front : goal.returns-in-Err-clause-front
@@ -52,3 +53,13 @@ returns-clause-status g c =
 
 pub returns-clause-early : goal.returns-clause-early
 returns-clause-early g c = IfErr-weaker c.put_graph.result _ _ (λ s so. write-early (g.W.Sink.faults c.args.out.now) (g.W.Sink.faults c.put_graph.new.out) s so) c.put_graph.ensures.status
+
+pub returns-in-Err-clause-asked : goal.returns-in-Err-clause-asked
+returns-in-Err-clause-asked g c =
+    rw c.of.ensures.status (λ updates. asked-graph c.args.limits.now (g.F.Shelf.files c.args.shelf.now) (Save c.args.name.now) _ _ _
+    (g.F.Shelf.reads c.args.shelf.now) (g.F.Shelf.reads c.read_store.new.shelf) updates (ended-stopped Graph c.in-Err.stop) (refl, refl) c.in-Err.ensures.asked)
+
+pub returns-clause-asked : goal.returns-clause-asked
+returns-clause-asked g c =
+    λ updates. asked-graph c.args.limits.now (g.F.Shelf.files c.args.shelf.now) (Save c.args.name.now) _ _ _
+    (g.F.Shelf.reads c.args.shelf.now) (g.F.Shelf.reads c.read_store.new.shelf) updates (written-reads_not c.put_graph.result _ _ c.put_graph.ensures.status) (refl, refl) c.in-Ok.ensures.asked

@@ -3,6 +3,7 @@ use Rattle.flux_model.specs.Verdict.{shape_of}
 use Rattle.watch_cli.specs.CommandWords.{texts}
 use Rattle.watch_cli.specs.RunEnds.{OneRose, ReadFails}
 use Rattle.watch_cli.proofs.TopLemmas.{status-complete}
+use Rattle.watch_cli.proofs.AskedByRunLemmas.{run-asked}
 use Rattle.watch_cli.proofs.top.run.Goals as goal
 
 pub returns-clause-complete : goal.returns-clause-complete
@@ -14,3 +15,9 @@ returns-clause-complete g c =
     (Rose (g.W.Sink.faults c.args.out.now) (g.W.Sink.faults c.judge-status.new.out))
     (OneRose (shape_of (texts c.args.words.now)) (g.F.Shelf.faults c.args.shelf.now) (g.F.Shelf.faults c.judge-status.new.shelf) (g.S.Source.faults c.args.updates.now) (g.S.Source.faults c.judge-status.new.updates))
     c.judge-status.result (λ reads. reads.cause) c.judge-status.ensures.status
+
+pub returns-clause-asked : goal.returns-clause-asked
+returns-clause-asked g c =
+    run-asked c.args.limits.now (g.F.Shelf.files c.args.shelf.now) (shape_of (texts c.args.words.now)) c.judge-status.result
+    (g.F.Shelf.reads c.args.shelf.now) (g.F.Shelf.reads c.judge-status.new.shelf)
+    (g.S.Source.reads c.args.updates.now) (g.S.Source.reads c.judge-status.new.updates) c.judge-status.ensures.asked

@@ -1,13 +1,17 @@
-use Rattle.std.proofs.Common.{◌≡◌, ◌+◌, ◌≤◌, length, ap, arith}
+use Rattle.std.proofs.Common.{◌≡◌, ◌+◌, ◌≤◌, length, refl, ap, arith}
 use Rattle.std.proofs.lemmas.Result.{err_from_is_err_and, on_ok_weaker, on_err_weaker, IfErr-weaker}
 use Rattle.std.proofs.lemmas.Grind.{common_steps}
 use Rattle.stream_lines.specs.Lent.{one_line}
 use Rattle.flux_outside.specs.Causes.{Rose}
+use Rattle.flux_outside.specs.declared.read_outcome.ReadOutcome.TheVariants.{Bytes, Fault}
+use Rattle.flux_outside.proofs.ReadsLemmas.{Asking-source, NoEmptyPut-none, NoEmptyPut-trans, source-gave, source-last}
+use Rattle.file_reading.proofs.AskedLemmas.{asks-well}
 use Rattle.flux_model.specs.Verdict.{Watched, ending_with, written_before}
 use Rattle.watch_cli.specs.RunEnds.{EndsAs, EndsAtFault}
 use Rattle.watch_cli.specs.Session.{WatchState}
 use Rattle.watch_cli.proofs.ReportLemmas.{Followed-start, Followed-next, lines_fit, some_lines_fit}
 use Rattle.watch_cli.proofs.FollowLemmas.{Consumes-none, Followed-before, Followed-fault, Followed-long, Followed-stops, Followed-done, Followed-done_short, write-ends, write-early}
+use Rattle.watch_cli.proofs.AskedByRunLemmas.{writing-reads_not, writing-no_file, written-reads_not, written-no_file}
 use Rattle.watch_cli.proofs.updates.follow.Goals as goal
 
 pub loop-count-init : goal.loop-count-init
@@ -16,6 +20,8 @@ loop-count-init g c = record {
   buffer = c.in-Ok.ensures;
   empty = c.new-report.ensures.items;
   followed = Followed-start _ _ _ _ _ c.new-lines.ensures;
+  asked = Asking-source _ _;
+  puts = NoEmptyPut-none _;
   read_later = omega arith;
   later = omega arith;
 }
@@ -52,15 +58,20 @@ report_waiting-requires-clause-fits g c =
     omega (arith, fit, ap (λ (s : WatchState). s.lines) c.requires.first, c.if-count-room.false, c.loop-count.invariant.within, c.requires.fair.input_bytes.1)
 
 pub loop-count-preserved : goal.loop-count-preserved
-loop-count-preserved g c = record {
-  within = omega (arith, c.if-count-room.false, c.loop-count.invariant.within);
-  buffer = c.loop-count.invariant.buffer;
-  empty = c.in_ok-report_waiting.ensures.empty;
-  followed = Followed-next _ _ _ _ _ _ _ _ _ _ _ _ _ _ _ _ c.loop-count.invariant.followed c.in-Ok-read.ensures.bytes.0 c.in-Ok-read.ensures.bound.1
-      c.in-Ok-push.ensures.lines c.in-Ok-push.ensures.line_bytes c.in_ok-report_waiting.ensures.ok c.in_ok-report_waiting.ensures.after c.in_ok-report_waiting.ensures.waiting;
-  read_later = omega (arith, c.loop-count.invariant.read_later, c.in-Ok-read.ensures.cause.later);
-  later = omega (arith, c.loop-count.invariant.later, c.in_ok-report_waiting.ensures.later);
-}
+loop-count-preserved g c =
+    let asked : length c.read.new.buf ≡ c.ask_for.result = grind (arith, common_steps) in
+    record {
+      within = omega (arith, c.if-count-room.false, c.loop-count.invariant.within);
+      buffer = c.loop-count.invariant.buffer;
+      empty = c.in_ok-report_waiting.ensures.empty;
+      followed = Followed-next _ _ _ _ _ _ _ _ _ _ _ _ _ _ _ _ c.loop-count.invariant.followed c.in-Ok-read.ensures.bytes.0 c.in-Ok-read.ensures.bound.1
+          c.in-Ok-push.ensures.lines c.in-Ok-push.ensures.line_bytes c.in_ok-report_waiting.ensures.ok c.in_ok-report_waiting.ensures.after c.in_ok-report_waiting.ensures.waiting;
+      read_later = omega (arith, c.loop-count.invariant.read_later, c.in-Ok-read.ensures.cause.later);
+      later = omega (arith, c.loop-count.invariant.later, c.in_ok-report_waiting.ensures.later);
+      asked = source-gave c.args.limits.now.input_bytes c.loop-count.given _ (Bytes c.in-Ok-read.count) _ _ _ c.loop-count.invariant.asked c.in-Ok-read.ensures.asked
+          (asks-well c.args.limits.now.input_bytes c.loop-count.given _ c.ask_for.result (Bytes c.in-Ok-read.count) (grind (arith, common_steps)) c.loop-count.invariant.within c.ask_for.ensures.some c.ask_for.ensures.fits c.ask_for.ensures.within (omega (arith, c.in-Ok-read.ensures.bound.0, asked))) (omega (arith, c.if-count-eq0.false));
+      puts = NoEmptyPut-trans _ _ _ c.loop-count.invariant.puts c.in_ok-report_waiting.ensures.puts;
+    }
 
 pub returns-in_err-report_waiting-clause-front : goal.returns-in_err-report_waiting-clause-front
 returns-in_err-report_waiting-clause-front g c =
@@ -115,3 +126,52 @@ returns-clause-status g c =
 
 pub returns-clause-early : goal.returns-clause-early
 returns-clause-early g c = IfErr-weaker c.report_end.result _ _ (λ s so. write-early _ _ s so) c.report_end.ensures.status
+
+-- ---- what was asked
+
+pub returns-in_default-read-clause-asked : goal.returns-in_default-read-clause-asked
+returns-in_default-read-clause-asked g c =
+    source-last c.args.limits.now.input_bytes c.loop-count.given _ Fault _ _ _ _ _ _ c.loop-count.invariant.asked c.in_default-read.ensures.asked
+    (asks-well c.args.limits.now.input_bytes c.loop-count.given _ c.ask_for.result Fault (grind (arith, common_steps)) c.loop-count.invariant.within c.ask_for.ensures.some c.ask_for.ensures.fits c.ask_for.ensures.within (omega arith)) (λ h. (refl, tt)) (λ h. absurd h)
+
+pub returns-then-count-room-clause-asked : goal.returns-then-count-room-clause-asked
+returns-then-count-room-clause-asked g c =
+    let asked : length c.read.new.buf ≡ c.ask_for.result = grind (arith, common_steps) in
+    source-last c.args.limits.now.input_bytes c.loop-count.given _ (Bytes c.in-Ok-read.count) _ _ _ _ _ _ c.loop-count.invariant.asked c.in-Ok-read.ensures.asked
+    (asks-well c.args.limits.now.input_bytes c.loop-count.given _ c.ask_for.result (Bytes c.in-Ok-read.count) (grind (arith, common_steps)) c.loop-count.invariant.within c.ask_for.ensures.some c.ask_for.ensures.fits c.ask_for.ensures.within (omega (arith, c.in-Ok-read.ensures.bound.0, asked))) (λ h. absurd h) (λ h. absurd h)
+
+pub returns-in_default-push-clause-asked : goal.returns-in_default-push-clause-asked
+returns-in_default-push-clause-asked g c =
+    let asked : length c.read.new.buf ≡ c.ask_for.result = grind (arith, common_steps) in
+    source-last c.args.limits.now.input_bytes c.loop-count.given _ (Bytes c.in-Ok-read.count) _ _ _ _ _ _ c.loop-count.invariant.asked c.in-Ok-read.ensures.asked
+    (asks-well c.args.limits.now.input_bytes c.loop-count.given _ c.ask_for.result (Bytes c.in-Ok-read.count) (grind (arith, common_steps)) c.loop-count.invariant.within c.ask_for.ensures.some c.ask_for.ensures.fits c.ask_for.ensures.within (omega (arith, c.in-Ok-read.ensures.bound.0, asked))) (λ h. absurd h) (λ h. absurd h)
+
+pub returns-in_err-report_waiting-clause-asked : goal.returns-in_err-report_waiting-clause-asked
+returns-in_err-report_waiting-clause-asked g c =
+    let p = err_from_is_err_and c.from_residual.result c.from_residual.ensures.1 in
+    let asked : length c.read.new.buf ≡ c.ask_for.result = grind (arith, common_steps) in
+    rw (p.1, p.2) (source-last c.args.limits.now.input_bytes c.loop-count.given _ (Bytes c.in-Ok-read.count) _ _ _ _ _ _ c.loop-count.invariant.asked c.in-Ok-read.ensures.asked
+    (asks-well c.args.limits.now.input_bytes c.loop-count.given _ c.ask_for.result (Bytes c.in-Ok-read.count) (grind (arith, common_steps)) c.loop-count.invariant.within c.ask_for.ensures.some c.ask_for.ensures.fits c.ask_for.ensures.within (omega (arith, c.in-Ok-read.ensures.bound.0, asked)))
+    (λ h. absurd (writing-reads_not _ _ _ c.in_err-report_waiting.ensures.status h)) (λ h. absurd h))
+
+pub returns-in_err-report_waiting-clause-no_file : goal.returns-in_err-report_waiting-clause-no_file
+returns-in_err-report_waiting-clause-no_file g c =
+    let p = err_from_is_err_and c.from_residual.result c.from_residual.ensures.1 in
+    rw (p.1, p.2) (writing-no_file _ _ _ c.in_err-report_waiting.ensures.status)
+
+pub returns-in_err-report_waiting-clause-puts : goal.returns-in_err-report_waiting-clause-puts
+returns-in_err-report_waiting-clause-puts g c = NoEmptyPut-trans _ _ _ c.loop-count.invariant.puts c.in_err-report_waiting.ensures.puts
+
+pub returns-clause-asked : goal.returns-clause-asked
+returns-clause-asked g c =
+    let none : c.in-Ok-read.count ≡ 0 = omega (arith, c.if-count-eq0.true) in
+    let asked : length c.read.new.buf ≡ c.ask_for.result = grind (arith, common_steps) in
+    source-last c.args.limits.now.input_bytes c.loop-count.given _ (Bytes c.in-Ok-read.count) _ _ _ _ _ _ c.loop-count.invariant.asked c.in-Ok-read.ensures.asked
+    (asks-well c.args.limits.now.input_bytes c.loop-count.given _ c.ask_for.result (Bytes c.in-Ok-read.count) (grind (arith, common_steps)) c.loop-count.invariant.within c.ask_for.ensures.some c.ask_for.ensures.fits c.ask_for.ensures.within (omega (arith, c.in-Ok-read.ensures.bound.0, asked)))
+    (λ h. absurd (written-reads_not c.report_end.result _ _ c.report_end.ensures.status h)) (λ h. ap Bytes none)
+
+pub returns-clause-no_file : goal.returns-clause-no_file
+returns-clause-no_file g c = written-no_file c.report_end.result _ _ c.report_end.ensures.status
+
+pub returns-clause-puts : goal.returns-clause-puts
+returns-clause-puts g c = NoEmptyPut-trans _ _ _ c.loop-count.invariant.puts c.report_end.ensures.puts

@@ -1,4 +1,6 @@
 use Rattle.std.proofs.Common.{◌≡◌, ◌≤◌, ◌-◌, [], vec_len}
+use Rattle.flux_outside.specs.Reads.{SourceReads, NoEmptyPut}
+use Rattle.flux_outside.proofs.ReadsLemmas.{Asking}
 use Rattle.watch_cli.specs.UpdatesProgress.{Followed}
 use Rattle.watch_cli.proofs.updates.follow.Given as goal
 
@@ -10,6 +12,8 @@ invariant-loop-count g l = record {
   followed : Followed l.limits.line_bytes l.given (g.S.Source.left l.fn.updates) (g.S.Source.left l.updates) (g.W.Sink.taken l.fn.out) (g.W.Sink.taken l.out) l.fn.session l.session l.lines;
   read_later : g.S.Source.faults l.fn.updates ≤ g.S.Source.faults l.updates;
   later : g.W.Sink.faults l.fn.out ≤ g.W.Sink.faults l.out;
+  asked : Asking l.limits.input_bytes l.given (SourceReads (g.S.Source.reads l.fn.updates) (g.S.Source.reads l.updates));
+  puts : NoEmptyPut (g.W.Sink.puts l.fn.out) (g.W.Sink.puts l.out);
 }
 
 abbrev pub decreases-loop-count : goal.decreases-loop-count
