@@ -5,9 +5,11 @@
 //! - `play`: a run, and how it has to end.
 //! - `watch_runs`: what updates change. `match_runs`: all embeddings. `save_runs`: the text of a graph.
 //! - `payment_runs`: the example of payments that the repository ships.
-//! - `early_runs`: runs that end early.
+//! - `early_runs`: runs that end early. `asked_runs`: what runs ask of their inputs, and what they put.
 #![tactic(auto)]
 
+#[cfg(test)]
+mod asked_runs;
 #[cfg(test)]
 mod early_runs;
 #[cfg(test)]

@@ -2,7 +2,7 @@
 ghost use Rattle.flux_model.specs.Limits.{IsFair};
 
 use flux_model::{Limits, Silent, Steps};
-use flux_outside::{MemShelf, MemSink, MemSource};
+use flux_outside::{MemShelf, MemSink, MemSource, Shelf, Sink, Source};
 use std::alloc::{AllocError, Global};
 use std::process::Abort;
 use watch_cli::{Status, run};
@@ -110,13 +110,13 @@ pub(crate) fn play(
 }
 
 /// Runs, and says how that ended.
-fn end_of(
+pub(crate) fn end_of<F: Shelf, S: Source, W: Sink>(
     alloc: Global,
     words: &[String],
     limits: &Limits,
-    shelf: &mut MemShelf,
-    updates: &mut MemSource,
-    out: &mut MemSink,
+    shelf: &mut F,
+    updates: &mut S,
+    out: &mut W,
     err: &mut MemSink,
 ) -> Status
     requires { IsFair limits.now }
@@ -135,7 +135,7 @@ pub(crate) fn play_all(rt: &impl Abort, alloc: Global, rows: &[Run]) -> Result<(
 }
 
 /// The standard limits with one below.
-fn limits_of(lower: Lower) -> Limits {
+pub(crate) fn limits_of(lower: Lower) -> Limits {
     let standard = Limits::standard();
     match lower {
         Lower::None => standard,
@@ -153,7 +153,7 @@ fn limits_of(lower: Lower) -> Limits {
 }
 
 /// The words as a command line has them.
-fn words_of(alloc: Global, words: &[&str]) -> Result<Vec<String>, AllocError> {
+pub(crate) fn words_of(alloc: Global, words: &[&str]) -> Result<Vec<String>, AllocError> {
     let mut all = Vec::new(alloc);
     for word in words {
         all.push(String::from_str(alloc, word)?)?;
@@ -162,7 +162,7 @@ fn words_of(alloc: Global, words: &[&str]) -> Result<Vec<String>, AllocError> {
 }
 
 /// A shelf with the two files of a run.
-fn shelf_of(alloc: Global, row: &Run) -> Result<MemShelf, AllocError> {
+pub(crate) fn shelf_of(alloc: Global, row: &Run) -> Result<MemShelf, AllocError> {
     let mut shelf = MemShelf::new(alloc);
     shelf.add("g", row.graph.as_bytes())?;
     shelf.add("p", row.patterns.as_bytes())?;
