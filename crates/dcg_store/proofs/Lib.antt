@@ -1,5 +1,6 @@
 pub mod CountLemmas
 pub mod LayerLemmas
+pub mod FlatLemmas
 pub mod PairLemmas
 pub mod RowsLemmas
 pub mod ListLemmas

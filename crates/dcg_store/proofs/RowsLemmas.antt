@@ -11,7 +11,7 @@ use Rattle.flux_model.specs.Exact.{Row, StateRows, pair_cmp, row_at}
 use Rattle.dcg_store.specs.Counters.{first_row, more_ins, fewer_ins, more_outs, fewer_outs, has_last_in}
 use Rattle.dcg_store.specs.Moves.{with_changed, with_more_ins, with_fewer_ins, in_raised, in_lowered}
 use Rattle.dcg_store.specs.SoundRows.{HasSoundRows, IsSoundRow}
-use Rattle.dcg_store.specs.Layers.{Layer, rows_of, layer_at, state_rows, IsStored}
+use Rattle.dcg_store.specs.Layers.{Layer, HasWidth, rows_of, layer_at, state_rows, IsStored}
 use Rattle.dcg_store.proofs.CountLemmas.{bit, insert-remove, insert_found, get_removed}
 use Rattle.dcg_store.proofs.PairLemmas.{pair_cmp_total, pair_cmp-IsAntisymmetric, same_pair, get-rows_of}
 
@@ -236,6 +236,10 @@ module _ (broken : Bool) (children : List ℕ) (layers : List Layer) (stored : �
 
   kept_row : (v : ℕ) (row : Row) → row_at d u v ≡ Some row → IsSoundRow children u row
   kept_row v row there = sound.kept.rows u v row (ap (λ e. row_at e u v) view ∙ there)
+
+  -- the rows of the layer have a counter for each child
+  pub has_width : (layer : Layer) (width : ℕ) → layer ≡ slice_index_or layers u layer → width ≡ slice_index children u → HasWidth width layer
+  has_width layer width read own v row there = (kept_row v row (sym (row_read layer v read) ∙ there)).width ∙ sym own
 
   -- a row that is there allows what a kept row does
   pub allows : (P Q : Row → Type 0) → ((row : Row) → IsSoundRow children u row → P row → Q row) → (layer : Layer) (v : ℕ) → layer ≡ slice_index_or layers u layer → IsSomeAnd (row_at d u v) P → IsSomeAnd (get layer v) Q

@@ -1,7 +1,7 @@
 -- The rows of each pattern vertex apart, as they are stored.
-use Rattle.std.specs.Prelude.{◌≡◌, ℕ, suc, Bool, List, [], ◌∷◌, ◌++◌, length, map, count_by, slice_index_or}
+use Rattle.std.specs.Prelude.{◌≡◌, ℕ, suc, Bool, Some, List, [], ◌∷◌, ◌++◌, length, map, count_by, slice_index_or}
 use Rattle.std.specs.Ordering.{nat_cmp}
-use Rattle.std.specs.FinMap.{FinMap, entries, from_sorted, empty, len}
+use Rattle.std.specs.FinMap.{FinMap, entries, from_sorted, empty, get, len}
 use Rattle.flux_model.specs.Exact.{Row, StateRows, pair_cmp}
 use Rattle.dcg_store.specs.Counters.{is_full}
 use Rattle.dcg_store.specs.SoundRows.{HasSoundRows}
@@ -13,6 +13,10 @@ Layer = FinMap nat_cmp Row
 -- how many rows are explicit
 abbrev pub live_in : Layer → ℕ
 live_in layer = count_by (λ entry. is_full entry.1) (entries layer)
+
+-- each row has so many out counters
+abbrev pub HasWidth : ℕ → Layer → Type 0
+HasWidth width layer = (v : ℕ) (row : Row) → get layer v ≡ Some row → length row.outs ≡ width
 
 -- the entry of graph vertex `entry.0`, as one of the pair with u
 abbrev pub of_vertex : ℕ → ℕ × Row → (ℕ × ℕ) × Row

@@ -2,3 +2,4 @@ pub mod Counters
 pub mod Moves
 pub mod SoundRows
 pub mod Layers
+pub mod Flat

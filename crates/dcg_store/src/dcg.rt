@@ -19,7 +19,6 @@ use std::marker::Model;
 /// and `raise_in` take memory.
 #[derive(Drop)]
 pub struct Dcg {
-    alloc: Global,
     broken: bool,
     children: Vec<usize>,
     layers: Vec<Layer>,
@@ -48,7 +47,6 @@ impl Dcg {
     {
         let layers = empty_layers(alloc, children.len())?;
         Ok(Dcg {
-            alloc,
             broken: false,
             children: Vec::from_slice(alloc, children)?,
             layers,
@@ -169,7 +167,7 @@ impl Dcg {
         let width = self.children[u];
         // As many rows as that find no memory in any case.
         let stored = self.stored.checked_add(1).ok_or(AllocError)?;
-        self.layers[u].begin(self.alloc, v, width)?;
+        self.layers[u].begin(v, width)?;
         self.stored = stored;
         Ok(())
     }

@@ -1,22 +1,28 @@
 //! `Layer`: the rows of one pattern vertex.
-ghost use Rattle.std.specs.Prelude.{◌≡◌, ℕ, ◌+◌, ◌-◌, ◌<◌, ◌^◌, length, nat_eq, slice_index, is_some, IsSome, None, OnOk, OnErr, if◌then◌else◌};
-ghost use Rattle.std.specs.List.{list_any, IsDistinct};
+ghost use Rattle.std.specs.Prelude.{◌≡◌, ℕ, ◌+◌, ◌-◌, ◌<◌, ◌≤◌, ◌*◌, ◌^◌, length, take, drop, nat_eq, nat_lt, slice_index, is_some, IsSome, None, OnOk, OnErr, if◌then◌else◌};
+ghost use Rattle.std.specs.List.{list_all, list_any, IsDistinct};
 ghost use Rattle.std.specs.Option.{ForSome, IsSomeAnd};
 ghost use Rattle.std.specs.FinMap.{empty, get, insert, remove};
 ghost use Rattle.dcg_store.specs.Counters.{first_row, state_of_row, more_ins, fewer_ins, more_outs, fewer_outs, has_last_in};
 ghost use Rattle.dcg_store.specs.Moves.{with_changed, with_fewer_ins};
-ghost use Rattle.dcg_store.specs.Layers.{live_in};
+ghost use Rattle.dcg_store.specs.Layers.{live_in, HasWidth};
 
-use crate::row::Row;
 use flux_model::State;
 use indexmap::IndexMap;
 use std::alloc::{AllocError, Global};
 use std::marker::Model;
 
 /// The rows of one pattern vertex, by graph vertex.
+///
+/// The out counters lie in one list, row after row, in the order of the in counters: a row takes no allocation of its own.
 #[derive(Drop)]
 pub(crate) struct Layer {
-    rows: IndexMap<u32, Row>,
+    /// How many joints lead into each pair that has a row.
+    ins: IndexMap<u32, u32>,
+    /// For each row in turn, how many joints lead on to each child.
+    outs: Vec<u32>,
+    /// How many out counters a row has. Without rows it may be any number.
+    width: usize,
     /// How many rows are explicit.
     live: u64,
 }
@@ -25,17 +31,17 @@ impl Model for Layer {
     ghost use Rattle.std.specs.Prelude.{◌≡◌};
     ghost use Rattle.std.specs.FinMap.{FinMap, from_entries};
     ghost use Rattle.std.specs.Ordering.{nat_cmp};
-    ghost use Rattle.flux_model.specs.Exact.{Row as Counts};
+    ghost use Rattle.flux_model.specs.Exact.{Row};
     ghost use Rattle.dcg_store.specs.SoundRows.{layer_code};
-    ghost use Rattle.dcg_store.specs.Layers.{live_in};
+    ghost use Rattle.dcg_store.specs.Flat.{flat_rows, IsFlat};
 
-    ghost Value = { FinMap nat_cmp Counts };
+    ghost Value = { FinMap nat_cmp Row };
 
     ghost coded = { layer_code };
 
-    ghost view = { λ l. from_entries l.rows.entries };
+    ghost view = { λ l. from_entries (flat_rows l.width l.ins.entries l.outs.items) };
 
-    ghost invariant = { λ l. l.live ≡ live_in (from_entries l.rows.entries) };
+    ghost invariant = { λ l. IsFlat l.width l.ins.entries l.outs.items l.live };
 }
 
 impl Layer {
@@ -44,7 +50,9 @@ impl Layer {
         ensures { result ≡ empty }
     {
         Layer {
-            rows: IndexMap::new(alloc),
+            ins: IndexMap::new(alloc),
+            outs: Vec::new(alloc),
+            width: 0,
             live: 0,
         }
     }
@@ -61,16 +69,20 @@ impl Layer {
         ensures once { IsDistinct nat_eq result.now }
         ensures rows { (v : ℕ) → list_any (nat_eq v) result.now ≡ is_some (get self.now v) }
     {
-        self.rows.keys().as_slice()
+        self.ins.keys().as_slice()
     }
 
     /// The state of the pair with `v`.
     pub(crate) fn state(&self, v: u32) -> State
         ensures { result ≡ state_of_row (get self.now v) }
     {
-        match self.rows.get(&v) {
-            Some(row) => row.state(),
-            None => State::Null,
+        let Some(i) = self.ins.get_index_of(&v) else {
+            return State::Null;
+        };
+        if is_full_at(self.outs.as_slice(), self.width, i) {
+            State::Explicit
+        } else {
+            State::Implicit
         }
     }
 
@@ -80,25 +92,31 @@ impl Layer {
         ensures found { result ≡ is_some (get self.old v) }
         ensures raised { self.new ≡ with_changed more_ins self.old v }
     {
-        let Some(row) = self.rows.get_mut(&v) else {
+        let Some(ins) = self.ins.get_mut(&v) else {
             return false;
         };
-        row.raise_in();
+        *ins += 1;
         true
     }
 
-    /// Begins the row of `v`, which has none, with a counter for each of `width` children.
-    pub(crate) fn begin(&mut self, alloc: Global, v: u32, width: usize) -> Result<(), AllocError>
-        requires { get self.old v ≡ None }
+    /// Begins the row of `v`, which has none, with a counter for each of `width` children. Each row has as many.
+    pub(crate) fn begin(&mut self, v: u32, width: usize) -> Result<(), AllocError>
+        requires missing { get self.old v ≡ None }
+        requires width { HasWidth width self.old }
         ensures ok { OnOk result (self.new ≡ insert self.old v (first_row width)) }
         ensures err { OnErr result (self.new ≡ self.old) }
     {
-        let row = Row::first(alloc, width)?;
-        let now = one_if(row.is_full());
-        self.rows.insert(v, row)?;
+        let len = self.outs.len().checked_add(width).ok_or(AllocError)?;
+        self.ins.reserve(1)?;
+        self.outs.resize(len, 0)?;
+        match self.ins.insert(v, 1) {
+            Ok(_) => {}
+            Err(_) => unreachable!(),
+        }
+        self.width = width;
         // For the proof: a map has fewer than 2^64 rows.
-        let _len = self.rows.len();
-        self.live += now;
+        let _len = self.ins.len();
+        self.live += one_if(width == 0);
         Ok(())
     }
 
@@ -121,23 +139,28 @@ impl Layer {
         ensures last { result ≡ has_last_in (get self.old v) }
         ensures lowered { self.new ≡ with_changed fewer_ins self.old v }
     {
-        let Some(row) = self.rows.get_mut(&v) else {
+        let Some(ins) = self.ins.get_mut(&v) else {
             return false;
         };
-        let is_last = row.is_last_in();
-        row.lower_in();
+        let is_last = *ins == 1;
+        *ins -= 1;
         is_last
     }
 
-    /// Ends the row of `v`, which has one.
+    /// Ends the row of `v`, which has one. The last row moves into its place.
     fn end(&mut self, v: u32)
         requires { IsSome (get self.old v) }
         ensures { self.new ≡ remove self.old v }
     {
-        let Some(row) = self.rows.swap_remove(&v) else {
+        // For the proof: no vertex has two rows.
+        let _len = self.ins.len();
+        let Some((i, _, _)) = self.ins.swap_remove_full(&v) else {
             return;
         };
-        let was = one_if(row.into_full());
+        let was = one_if(is_full_at(self.outs.as_slice(), self.width, i));
+        let last = self.width * self.ins.len();
+        self.outs.copy_within(last.., self.width * i);
+        self.outs.truncate(last);
         self.live -= was;
     }
 
@@ -146,14 +169,14 @@ impl Layer {
         requires { IsSomeAnd (get self.old v) (λ row. (j < length row.outs) × (slice_index row.outs j < 2 ^ 32 - 1)) }
         ensures { self.new ≡ with_changed (more_outs j) self.old v }
     {
-        // For the proof: a map has fewer than 2^64 rows.
-        let _len = self.rows.len();
-        let Some(row) = self.rows.get_mut(&v) else {
+        let Some(i) = self.ins.get_index_of(&v) else {
             return;
         };
-        let was = one_if(row.is_full());
-        row.raise_out(j);
-        let now = one_if(row.is_full());
+        let was = one_if(is_full_at(self.outs.as_slice(), self.width, i));
+        self.outs[self.width * i + j] += 1;
+        let now = one_if(is_full_at(self.outs.as_slice(), self.width, i));
+        // For the proof: a map has fewer than 2^64 rows.
+        let _len = self.ins.len();
         self.live = self.live - was + now;
     }
 
@@ -162,16 +185,34 @@ impl Layer {
         requires { IsSomeAnd (get self.old v) (λ row. (j < length row.outs) × (0 < slice_index row.outs j)) }
         ensures { self.new ≡ with_changed (fewer_outs j) self.old v }
     {
-        // For the proof: a map has fewer than 2^64 rows.
-        let _len = self.rows.len();
-        let Some(row) = self.rows.get_mut(&v) else {
+        let Some(i) = self.ins.get_index_of(&v) else {
             return;
         };
-        let was = one_if(row.is_full());
-        row.lower_out(j);
-        let now = one_if(row.is_full());
+        let was = one_if(is_full_at(self.outs.as_slice(), self.width, i));
+        self.outs[self.width * i + j] -= 1;
+        let now = one_if(is_full_at(self.outs.as_slice(), self.width, i));
+        // For the proof: a map has fewer than 2^64 rows.
+        let _len = self.ins.len();
         self.live = self.live - was + now;
     }
+}
+
+/// Whether each counter of the row of number `i` is at least 1.
+fn is_full_at(outs: &[u32], width: usize, i: usize) -> bool
+    requires { width * i + width ≤ length outs.now }
+    ensures { result ≡ list_all (nat_lt 0) (take width (drop (width * i) outs.now)) }
+{
+    // For the proof: a slice has fewer than 2^64 items.
+    let _len = outs.len();
+    let from = width * i;
+    are_positive(&outs[from..from + width])
+}
+
+/// Whether each counter is at least 1.
+fn are_positive(counters: &[u32]) -> bool
+    ensures { result ≡ list_all (nat_lt 0) counters.now }
+{
+    counters.iter().all(|n| *n > 0)
 }
 
 /// 1 for true, and 0 for false.

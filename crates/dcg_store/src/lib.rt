@@ -6,13 +6,11 @@
 //! counter at a time; which moves make them exact again after an update is for the crates above to say.
 //!
 //! - `dcg`: `Dcg`, all rows. A call that reads or moves a row counts one step.
-//! - `layer`: the rows of one pattern vertex, found by hashing.
-//! - `row`: the counters of one pair.
+//! - `layer`: the rows of one pattern vertex, found by hashing, their counters in one list.
 #![tactic(auto)]
 
 mod dcg;
 mod layer;
-mod row;
 #[cfg(test)]
 mod tests;
 

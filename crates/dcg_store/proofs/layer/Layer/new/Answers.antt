@@ -1,5 +1,5 @@
-use Rattle.dcg_store.proofs.LayerLemmas.{live_of_none}
+use Rattle.dcg_store.proofs.FlatLemmas.{flat_none}
 use Rattle.dcg_store.proofs.layer.Layer.new.Goals as goal
 
 pub invariant_of-result : goal.invariant_of-result
-invariant_of-result c = live_of_none c.new.result.entries c.new.ensures.empty
+invariant_of-result c = flat_none c.new.result.entries c.new-2.result.items c.new.ensures.empty c.new-2.ensures.items
