@@ -114,7 +114,7 @@ def social(V, E, U):
             g.append(f"v {i} Person C{city}" + (" Admin" if p(100) == 0 else ""))
         elif k < 95:
             posts.append(i)
-            g.append(f"v {i} Post T{p(4)}")
+            g.append(f"v {i} Post Topic{p(4)}")
         else:
             groups.append(i)
             g.append(f"v {i} Group")
@@ -156,9 +156,9 @@ def social(V, E, U):
                  ["0 1 knows", "0 2 knows", "1 3 knows", "2 3 knows"])
     pat += block("path", "iso", ["Person C0", "Person C2", "Person C6", "Post", "Person C4"],
                  ["0 1 knows", "1 2 knows", "2 3 likes", "4 3 posted"])
-    pat += block("star", "hom", ["Post T1", "Person C2", "Person C3", "Person", "Group"],
+    pat += block("star", "hom", ["Post Topic1", "Person C2", "Person C3", "Person", "Group"],
                  ["1 0 likes", "2 0 likes", "3 0 posted", "0 4 in"])
-    pat += block("tree", "hom", ["Person C6", "Person C1", "Group", "Person C3", "Post T2", "Person"],
+    pat += block("tree", "hom", ["Person C6", "Person C1", "Group", "Person C3", "Post Topic2", "Person"],
                  ["0 1 knows", "0 2 member", "1 3 follows", "3 4 likes", "5 4 posted"])
     return g, pat, u
 
