@@ -6,15 +6,14 @@ ghost use Rattle.flux_model.specs.Costs.{no_dead_end_cost};
 ghost use Rattle.flux_model.specs.Embedding.{embeddings};
 ghost use Rattle.flux_model.specs.Exact.{IsExact};
 ghost use Rattle.flux_model.specs.Graph.{Graph, has_both_ends, has_triple, with_triple, without_triple};
-ghost use Rattle.flux_model.specs.Tree.{tree, BelongsTo};
+ghost use Rattle.flux_model.specs.Tree.{cards as cards_over, tree, BelongsTo};
 ghost use Rattle.pattern_registry.specs.UpdateCosts.{both_costs, rows_cost, looks_cost};
 ghost use Rattle.tree_search.specs.SearchCosts.{MeetsNoDeadEnd};
 
 use dcg_store::Dcg;
 use dcg_transition::{after_delete, after_insert, after_vertex, build};
-use flux_model::{Ledger, Maps, Pattern, Steps, Triple};
+use flux_model::{Cards, Ledger, Maps, Pattern, Steps, Triple};
 use graph_traits::{HoldGraph, ReadGraph};
-use label_cards::cards;
 use query_tree::QueryTree;
 use std::alloc::{AllocError, Global};
 use tree_search::{all, at_edge};
@@ -33,15 +32,16 @@ impl PatternIndex {
     pub fn build<G: ReadGraph<L>, L: Ledger>(
         alloc: Global,
         pattern: &Pattern,
+        cards: &Cards,
         graph: &G,
         steps: &mut Steps<L>,
     ) -> Result<PatternIndex, AllocError>
+        requires { cards.now ≡ cards_over pattern.now (G.graph graph.now) }
         ensures tree { IfOk result (λ index. index.tree ≡ tree pattern.now (G.graph graph.now)) }
         ensures belongs { IfOk result (λ index. BelongsTo pattern.now index.tree) }
         ensures exact { IfOk result (λ index. IsExact pattern.now index.tree (G.graph graph.now) index.dcg) }
     {
-        let cards = cards(alloc, graph, pattern, steps)?;
-        let tree = QueryTree::choose(alloc, pattern, &cards)?;
+        let tree = QueryTree::choose(alloc, pattern, cards)?;
         let dcg = build(alloc, pattern, &tree, graph, steps)?;
         Ok(PatternIndex { tree, dcg })
     }

@@ -20,6 +20,7 @@ use crate::vertices::{gains_at, losses_at, move_all};
 use dcg_store::Dcg;
 use flux_model::{Code, Delta, Deltas, Labels, Ledger, Maps, Patterns, Steps, Triple, Update};
 use graph_traits::{HoldGraph, KeepGraph, ReadGraph};
+use label_cards::all_cards;
 use query_tree::QueryTree;
 use std::alloc::{AllocError, Global};
 use std::marker::Model;
@@ -68,9 +69,11 @@ impl Registry {
         ensures exact { IfOk result (λ registry. AreExact registry (G.graph graph.now)) }
         ensures whole { IfOk result (λ registry. registry.is_broken ≡ false) }
     {
+        let cards = all_cards(alloc, graph, &patterns, steps)?;
         let mut indexes = Vec::new(alloc);
         for k in 0..patterns.count() {
-            indexes.push(PatternIndex::build(alloc, patterns.get(k), graph, steps)?)?;
+            let (pattern, cards) = (patterns.get(k), &cards[k]);
+            indexes.push(PatternIndex::build(alloc, pattern, cards, graph, steps)?)?;
         }
         let routes = routes_to(alloc, &patterns)?;
         Ok(Registry {

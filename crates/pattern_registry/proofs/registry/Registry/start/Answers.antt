@@ -7,7 +7,7 @@ loop-k-init g c = rw c.new-indexes.ensures.items tt
 
 pub loop-k-preserved : goal.loop-k-preserved
 loop-k-preserved g c =
-    started_next (g.G.HoldGraph.graph c.args.graph.now) c.args.patterns c.loop-k.indexes.items c.push.new.self.items c.loop-k.k c.get.result.now c.in_ok-build.field-0 c.get.ensures c.loop-k.invariant
+    started_next (g.G.HoldGraph.graph c.args.graph.now) c.args.patterns c.loop-k.indexes.items c.push.new.self.items c.loop-k.k c.get-pattern.result.now c.in_ok-build.field-0 c.get-pattern.ensures c.loop-k.invariant
     (record { chosen = c.in_ok-build.ensures.tree; belongs = c.in_ok-build.ensures.belongs; exact = c.in_ok-build.ensures.exact })
     c.in_ok-push.ensures.items
 
