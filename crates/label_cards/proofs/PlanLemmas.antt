@@ -16,7 +16,7 @@ use Rattle.label_cards.specs.declared.plan.LabelSet.{LabelSet}
 use Rattle.label_cards.specs.declared.plan.Places.{Places}
 use Rattle.label_cards.specs.declared.plan.Plan.{Plan}
 use Rattle.label_cards.specs.declared.plan.TripleTest.{TripleTest}
-use Rattle.label_cards.proofs.GrownLemmas.{get-append, get-last, get-fresh, count-append, all-more, all-at}
+use Rattle.label_cards.proofs.GrownLemmas.{get-append, get-fresh, count-append, all-more, all-at}
 
 -- ---- sets
 
@@ -26,17 +26,6 @@ set-within sets c labels e = by (slice_get sets c) refl e
     by : (o : Option LabelSet) → slice_get sets c ≡ o → labels_of o ≡ Some labels → c < length sets
     by None is e = cc
     by (Some set) is e = slice_get_within sets c set is
-
--- one set more
-pub sets-more : (sets : List LabelSet) (set : LabelSet) → AreSetsKept sets (sets ++ set ∷ [])
-sets-more sets set c labels e = by (slice_get sets c) refl e
-  where
-    by : (o : Option LabelSet) → slice_get sets c ≡ o → labels_of o ≡ Some labels → set_at (sets ++ set ∷ []) c ≡ Some labels
-    by None is e = cc
-    by (Some other) is e = ap labels_of (get-append sets set c other is) ∙ e
-
-pub set-last : (sets : List LabelSet) (set : LabelSet) → set_at (sets ++ set ∷ []) (length sets) ≡ Some set.labels.now
-set-last sets set = ap labels_of (get-last sets set)
 
 pub sets-kept : (old new : List LabelSet) (all : List (List (List ℕ))) (places : List ℕ) → AreSetsKept old new → AreSetsOf old all places → AreSetsOf new all places
 sets-kept old new all places kept were =
