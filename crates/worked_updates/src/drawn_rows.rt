@@ -224,7 +224,7 @@ fn are_same_at(one: &Dcg, other: &Dcg, u: usize) -> bool
     requires other_vertex { u < length other.now.children }
 {
     let mut steps = Steps::new(Silent);
-    for v in 0..=IDS {
+    for v in 0..IDS + 1 {
         if one.pair_state(u, v, &mut steps) != other.pair_state(u, v, &mut steps) {
             return false;
         }
