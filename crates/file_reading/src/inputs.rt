@@ -83,7 +83,8 @@ pub fn read_patterns<F: Shelf>(
         (λ verdict. FileIs (F.files shelf.old) name.now (pattern_file limits.now) (Err verdict))
         BadPatterns (Rose (F.faults shelf.old) (F.faults shelf.new))) }
     ensures asked { AskedOfInput limits.now.input_bytes (StopsAtFault result) (WentOn result)
-        (NoLineRefused (F.files shelf.old) name.now (pattern_front limits.now)) (FileReads name.now (F.reads shelf.old) (F.reads shelf.new)) }
+        (NoLineRefused (F.files shelf.old) name.now (pattern_front limits.now))
+        (FileReads name.now (F.reads shelf.old) (F.reads shelf.new)) }
 {
     let mut reader = PatternReader::new(alloc, limits);
     read_file(alloc, limits, shelf, name, &mut reader)?;
