@@ -251,10 +251,12 @@ fn is_right(rt: &impl Abort, alloc: Global, row: &Row) -> Result<bool, AllocErro
         &mut out,
         &mut err,
     );
-    Ok(status == row.run.status
-        && asked_so(&shelf, row)
-        && *updates.asked.as_slice() == *row.of_updates
-        && *out.puts.as_slice() == *row.puts)
+    Ok(
+        status == row.run.status
+            && asked_so(&shelf, row)
+            && *updates.asked.as_slice() == *row.of_updates
+            && *out.puts.as_slice() == *row.puts,
+    )
 }
 
 /// Whether the files were asked as the row says.

@@ -271,11 +271,7 @@ fn add_classes(
 
 /// Vertex 1 with a triple of the label `r` to vertex 2, and one of the label `s` to each of the vertices 3 to 1,002, and a triple
 /// between two of these.
-fn fan_of(
-    rt: &impl Abort,
-    alloc: Global,
-    between: (u32, &str, u32),
-) -> Result<LabelGraph, Unmade> {
+fn fan_of(rt: &impl Abort, alloc: Global, between: (u32, &str, u32)) -> Result<LabelGraph, Unmade> {
     let mut graph = graph_of(alloc, "v 1\nv 2\ne 1 2 r")?;
     for id in 3..1003 {
         let added = graph.add_vertex(id, &Labels::new(alloc))?;
@@ -391,8 +387,10 @@ fn is_right(rt: &impl Abort, alloc: Global, row: &Row) -> Result<bool, Unmade> {
     let patterns = patterns_of(alloc, row.pattern)?;
     let pattern = first(&patterns)?;
     let tree = tree_of(alloc, pattern, row.edges, row.vertices)?;
-    Ok(are_listed(rt, alloc, pattern, &tree, row)?
-        && are_the_difference(rt, alloc, pattern, &tree, row)?)
+    Ok(
+        are_listed(rt, alloc, pattern, &tree, row)?
+            && are_the_difference(rt, alloc, pattern, &tree, row)?,
+    )
 }
 
 /// How many rows, from the first on, are as they should be.
