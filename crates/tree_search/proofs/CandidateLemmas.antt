@@ -85,7 +85,7 @@ module _ (outs ins : ℕ → Spot → List Triple) (g : Graph) (c : Candidates) 
   -- no more reads are left than the anchor's id has triples
   pub start_few : turns g (walked c) ≤ degree g c.row.vertex → (at : Cursor) → IsStart outs ins g c at → reads outs ins c at ≤ degree g c.row.vertex
   start_few short (Row s) start = omega (arith, length_permutation (rows s) (whole_row direction g vertex) start, short)
-  start_few short (Layer i) start = omega (arith, start.first, start.few)
+  start_few short (Layer i) start = omega (arith, start.first, start.few, short)
 
   -- ---- one end of the row that is walked after another
 

@@ -1,13 +1,13 @@
 -- The candidates that are left from a place on, in a row or in a layer of the index.
 use Rattle.std.specs.Prelude.{◌≡◌, ℕ, ◌-◌, ◌≤◌, ◌||◌, not, Bool, List, length, drop, filter, is_some, IsPermutation}
 use Rattle.std.specs.Option.{unwrap_or}
-use Rattle.flux_model.specs.Costs.{degree}
 use Rattle.flux_model.specs.Graph.{Graph, has_triple}
 use Rattle.flux_model.specs.declared.graph.Triple.{Triple}
 use Rattle.graph_traits.specs.declared.spot.Spot.{Spot}
 use Rattle.graph_rows.specs.Directions.{triple_of, whole_row}
 use Rattle.graph_rows.specs.LabelRows.{row_from, ends_from, IsPlaceOf}
 use Rattle.graph_rows.specs.declared.graph_row.GraphRow.{GraphRow}
+use Rattle.tree_search.specs.Ways.{turns}
 use Rattle.tree_search.specs.declared.candidates.Candidates.{Candidates}
 use Rattle.tree_search.specs.declared.candidates.Cursor.{Cursor}
 use Rattle.tree_search.specs.declared.candidates.Cursor.TheVariants.{Row, Layer}
@@ -47,10 +47,10 @@ abbrev pub IsCursor : (ℕ → Spot → Type 0) → (ℕ → Spot → Type 0) �
 IsCursor is_out is_in c (Row s) = IsPlaceOf is_out is_in (walked c) s
 IsCursor is_out is_in c (Layer i) = i ≤ length c.layer.now
 
--- the layer is no longer than the anchor's id has triples
+-- the layer is no longer than the row that would be walked
 pub record IsShort (g : Graph) (c : Candidates) (i : ℕ) : Type 0 where
   pub first : i ≡ 0
-  pub few : length c.layer.now ≤ degree g c.row.vertex
+  pub few : length c.layer.now ≤ turns g (walked c)
 
 -- all candidates are left
 abbrev pub IsStart : (ℕ → Spot → List Triple) → (ℕ → Spot → List Triple) → Graph → Candidates → Cursor → Type 0

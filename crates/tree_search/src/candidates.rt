@@ -1,10 +1,10 @@
 //! `Candidates`: the ids that a vertex may have beside the id of its anchor, from the shortest of some lists.
 ghost use Rattle.std.specs.Prelude.{◌≡◌, ◌+◌, ◌*◌, ◌<◌, ◌≤◌, [], ◌∷◌, length, IsTrue, IfSome, MatchOption};
-ghost use Rattle.flux_model.specs.Costs.{degree};
 ghost use Rattle.flux_model.specs.Graph.{has_vertex};
 ghost use Rattle.graph_traits.specs.Numbers.{IsNumberIn};
 ghost use Rattle.graph_rows.specs.LabelRows.{row_from, IsPlaceOf};
 ghost use Rattle.tree_search.specs.CandidatesLeft.{leads_to, passes, walked, walked_from, listed_from, left, reads, IsCursor, IsStart};
+ghost use Rattle.tree_search.specs.Ways.{turns};
 
 use flux_model::{Ledger, Steps};
 use graph_rows::{Direction, GraphRow};
@@ -30,7 +30,7 @@ pub struct Candidates<'a> {
 pub struct Shortest<'a> {
     /// The row, or `None` where none is shorter.
     pub row: Option<GraphRow<'a>>,
-    /// How many triples it has, of any label; where there is none, the row of the anchor's id.
+    /// How many triples it has, of any label, or else the row of the anchor's id.
     pub turns: u64,
 }
 
@@ -47,7 +47,7 @@ impl<'a> Candidates<'a> {
     /// The first place, in the shortest list. It takes no step.
     pub fn first<G: HoldGraph>(&self, graph: &G) -> Cursor
         requires stands { IsTrue (has_vertex (G.graph graph.now) (walked self.now).vertex) }
-        requires few { self.now.shortest.turns ≤ degree (G.graph graph.now) self.now.row.vertex }
+        requires counted { self.now.shortest.turns ≡ turns (G.graph graph.now) (walked self.now) }
         ensures place { IsCursor (G.is_out_place graph.now) (G.is_in_place graph.now) self.now result }
         ensures start { IsStart (G.outs_from graph.now) (G.ins_from graph.now) (G.graph graph.now) self.now result }
     {

@@ -1,5 +1,6 @@
 //! The rows by which a vertex can be reached from the ids of neighbours that are not its anchor.
-ghost use Rattle.std.specs.Prelude.{◌≡◌, ◌<◌, ◌≤◌, length, IsTrue, IfSome};
+ghost use Rattle.std.specs.Prelude.{◌≡◌, ◌<◌, length, IsTrue, IfSome};
+ghost use Rattle.std.specs.Option.{unwrap_or};
 ghost use Rattle.flux_model.specs.Graph.{has_vertex};
 ghost use Rattle.match_order.specs.Whole.{vertices};
 ghost use Rattle.nontree_test.specs.Numbered.{AreNumbersOf};
@@ -28,7 +29,7 @@ pub fn shortest_row<'a, G: HoldGraph>(
     requires stands { IsTrue (has_vertex (G.graph search.now.graph.now) than.now.vertex) }
     ensures row { IfSome result.row (IsShorterWay (G.label_text search.now.graph.now) search.now.pattern.now
         (G.graph search.now.graph.now) partial.now (nth_vertex search.now.order k) than.now) }
-    ensures turns { result.turns ≤ turns (G.graph search.now.graph.now) than.now }
+    ensures turns { result.turns ≡ turns (G.graph search.now.graph.now) (unwrap_or result.row than.now) }
 {
     let mut shortest = Shortest {
         row: None,

@@ -116,7 +116,7 @@ fn candidates_at<'a, G: HoldGraph>(
     ensures way { IsWay (G.label_text search.now.graph.now) search.now.pattern.now (G.graph search.now.graph.now)
         partial.now (nth_vertex search.now.order k) (walked result) }
     ensures short { turns (G.graph search.now.graph.now) (walked result) ≤ degree (G.graph search.now.graph.now) result.row.vertex }
-    ensures counted { result.shortest.turns ≤ degree (G.graph search.now.graph.now) result.row.vertex }
+    ensures counted { result.shortest.turns ≡ turns (G.graph search.now.graph.now) (walked result) }
     ensures once { IsDistinct nat_eq result.layer.now }
     ensures rows { (v : ℕ) → list_any (nat_eq v) result.layer.now ≡ is_some (row_at search.now.dcg.now (nth_vertex search.now.order k) v) }
 {

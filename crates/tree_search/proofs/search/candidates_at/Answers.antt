@@ -1,6 +1,6 @@
 use Rattle.std.proofs.Common.{arith}
 use Rattle.tree_search.specs.Ways.{IsWay}
-use Rattle.tree_search.proofs.WayLemmas.{walked_way, walked_short, turns_few}
+use Rattle.tree_search.proofs.WayLemmas.{walked_way, walked_short}
 use Rattle.tree_search.proofs.TieLemmas.{children_count}
 use Rattle.tree_search.specs.Given.{nth_vertex}
 use Rattle.tree_search.proofs.GivenLemmas.{vertex_inside, anchor_stands, member_in_row}
@@ -41,6 +41,4 @@ row_vertices-requires-clause-vertex g c =
     omega (arith, count, inside, c.requires.given.places, c.vertex.ensures)
 
 pub returns-clause-counted : goal.returns-clause-counted
-returns-clause-counted g c =
-    let few = turns_few (g.G.HoldGraph.graph c.args.search.now.graph.now) c.row_to-row.result in
-    omega (arith, few, c.shortest_row-shortest.ensures.turns)
+returns-clause-counted g c = c.shortest_row-shortest.ensures.turns
