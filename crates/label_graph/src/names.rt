@@ -3,6 +3,7 @@ ghost use Rattle.std.specs.Prelude.{◌≡◌, ◌≢◌, ℕ, ◌+◌, ◌<◌,
 
 use crate::hashed::Numbers;
 use flux_model::Text;
+use seeded_hash::SeededState;
 use slab::Slab;
 use std::alloc::{AllocError, Global};
 use std::marker::Model;
@@ -38,12 +39,12 @@ impl Model for Names {
 impl Names {
     ghost use Rattle.label_graph.specs.Names.{slot, text_at, uses_of, lowered, IsUnknown, IsTable};
 
-    /// No names.
-    pub fn new(alloc: Global) -> Names
+    /// No names, which are to be hashed so.
+    pub fn new(alloc: Global, hasher: SeededState) -> Names
         ensures { (n : ℕ) → slot result n ≡ None }
     {
         Names {
-            numbers: Numbers::new(alloc),
+            numbers: Numbers::with_hasher(alloc, hasher),
             slots: Slab::new(alloc),
         }
     }

@@ -12,6 +12,7 @@ use crate::hashed::{Nodes, Standing};
 use crate::link::{Link, Node, Places};
 use crate::names::Names;
 use flux_model::Limits;
+use seeded_hash::SeededState;
 use std::alloc::Global;
 
 mod hold;
@@ -26,6 +27,7 @@ mod vertices;
 #[derive(Drop)]
 pub struct LabelGraph {
     limits: Limits,
+    seed: u64,
     names: Names,
     nodes: Nodes,
     places: Standing,
@@ -37,17 +39,28 @@ pub struct LabelGraph {
 impl LabelGraph {
     ghost use Rattle.label_graph.specs.Meaning.{graph_in};
 
-    /// The empty graph under these limits, which have to be fair.
+    /// The empty graph under these limits, which have to be fair, with seed 0.
     pub fn new(alloc: Global, limits: &Limits) -> LabelGraph
         requires { IsFair limits.now }
         ensures graph { graph_in result ≡ empty_graph }
         ensures limits { result.limits ≡ limits.now }
     {
+        LabelGraph::with_seed(alloc, limits, 0)
+    }
+
+    /// The empty graph under these limits, which have to be fair. Its ids, triples and label names hash from `seed`.
+    pub fn with_seed(alloc: Global, limits: &Limits, seed: u64) -> LabelGraph
+        requires { IsFair limits.now }
+        ensures graph { graph_in result ≡ empty_graph }
+        ensures limits { result.limits ≡ limits.now }
+    {
+        let hasher = SeededState::new(seed);
         LabelGraph {
             limits: *limits,
-            names: Names::new(alloc),
-            nodes: Nodes::new(alloc),
-            places: Standing::new(alloc),
+            seed,
+            names: Names::new(alloc, hasher),
+            nodes: Nodes::with_hasher(alloc, hasher),
+            places: Standing::with_hasher(alloc, hasher),
         }
     }
 }

@@ -23,6 +23,7 @@ enum Lowered {
 struct Case {
     name: &'static str,
     lowered: Lowered,
+    seed: u64,
     script: &'static [Line],
 }
 
@@ -40,7 +41,7 @@ fn limits(lowered: Lowered) -> Limits {
 fn play_case(rt: &impl Abort, alloc: Global, case: Case) -> Result<(), AllocError> {
     let limits = limits(case.lowered);
     assert!(rt; limits.fair());
-    let mut graph = LabelGraph::new(alloc, &limits);
+    let mut graph = LabelGraph::with_seed(alloc, &limits, case.seed);
     play(rt, alloc, &mut graph, case.name, case.script)
 }
 
@@ -57,6 +58,7 @@ const REFUSALS: &[Case] = &[
     Case {
         name: "more triples than the limit are refused",
         lowered: Lowered::Edges(1),
+        seed: 0,
         script: &[
             AddVertex(1, b"A", Ok(())),
             AddVertex(2, b"B", Ok(())),
@@ -69,6 +71,7 @@ const REFUSALS: &[Case] = &[
     Case {
         name: "a name that nothing bears is not counted",
         lowered: Lowered::Names(2),
+        seed: 7,
         script: &[
             AddVertex(1, b"A", Ok(())),
             AddVertex(2, b"B", Ok(())),
@@ -90,6 +93,7 @@ const REFUSALS: &[Case] = &[
     Case {
         name: "each refusal has its cause",
         lowered: Lowered::Nothing,
+        seed: 0,
         script: &[
             AddVertex(1, b"A", Ok(())),
             AddVertex(2, b"B", Ok(())),
@@ -123,6 +127,7 @@ const READS: &[Case] = &[
     Case {
         name: "a self loop stands in both rows once",
         lowered: Lowered::Nothing,
+        seed: 7,
         script: &[
             AddVertex(1, b"A", Ok(())),
             AddVertex(2, b"B", Ok(())),
@@ -141,6 +146,7 @@ const READS: &[Case] = &[
     Case {
         name: "each read counts one step",
         lowered: Lowered::Nothing,
+        seed: 7,
         script: &[
             AddVertex(1, b"A", Ok(())),
             AddVertex(2, b"B", Ok(())),
@@ -167,13 +173,14 @@ const READS: &[Case] = &[
             HasEdgeByLabel((1, b't', 2), None),
             HasEdgeByNumber((1, 77, 2), false),
             Sizes(2, 2),
-            Seed(0),
+            Seed(7),
             Counted(18),
         ],
     },
     Case {
         name: "each vertex is listed once",
         lowered: Lowered::Nothing,
+        seed: 7,
         script: &[
             AddVertex(1, b"A", Ok(())),
             AddVertex(2, b"B", Ok(())),
@@ -186,6 +193,7 @@ const READS: &[Case] = &[
     Case {
         name: "a vertex fits by all of its labels",
         lowered: Lowered::Nothing,
+        seed: 0,
         script: &[
             AddVertex(1, b"BA", Ok(())),
             AddVertex(2, b"B", Ok(())),
@@ -208,6 +216,7 @@ const READS: &[Case] = &[
     Case {
         name: "a number stands for a label while it is in use",
         lowered: Lowered::Nothing,
+        seed: 7,
         script: &[
             AddVertex(1, b"A", Ok(())),
             AddVertex(2, b"B", Ok(())),
@@ -251,6 +260,7 @@ fn each_read_is_what_was_put_in(rt: HostRuntime) -> Result<(), Fail> {
 const MANY_EDGES: &[Case] = &[Case {
     name: "a high degree is taken down in another order",
     lowered: Lowered::Nothing,
+    seed: 7,
     script: &[
         MakeStar,
         Sizes(10001, 10000),

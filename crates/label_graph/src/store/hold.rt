@@ -100,6 +100,6 @@ impl HoldGraph for LabelGraph {
     }
 
     fn seed(&self) -> u64 {
-        0
+        self.seed
     }
 }
