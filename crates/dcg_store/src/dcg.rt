@@ -10,6 +10,7 @@ ghost use Rattle.dcg_store.specs.SoundRows.{HasSoundRows, live_count};
 
 use crate::layer::Layer;
 use flux_model::{Ledger, State, Steps};
+use seeded_hash::SeededState;
 use std::alloc::{AllocError, Global};
 use std::marker::Model;
 
@@ -41,11 +42,18 @@ impl Model for Dcg {
 }
 
 impl Dcg {
-    /// No rows, for a pattern whose vertices have so many children each in its tree.
+    /// No rows, for a pattern whose vertices have so many children each in its tree, with seed 0.
     pub fn new(alloc: Global, children: &[usize]) -> Result<Dcg, AllocError>
         ensures { IfOk result (λ dcg. dcg ≡ record { is_broken = false; children = children.now; rows = empty }) }
     {
-        let layers = empty_layers(alloc, children.len())?;
+        Dcg::with_seed(alloc, children, 0)
+    }
+
+    /// As `new`, with look-ups of graph vertices that hash from `seed`.
+    pub fn with_seed(alloc: Global, children: &[usize], seed: u64) -> Result<Dcg, AllocError>
+        ensures { IfOk result (λ dcg. dcg ≡ record { is_broken = false; children = children.now; rows = empty }) }
+    {
+        let layers = empty_layers(alloc, children.len(), SeededState::new(seed))?;
         Ok(Dcg {
             broken: false,
             children: Vec::from_slice(alloc, children)?,
@@ -239,12 +247,12 @@ impl Dcg {
 ghost use Rattle.std.specs.Prelude.{replicate};
 
 /// So many layers with no rows.
-fn empty_layers(alloc: Global, count: usize) -> Result<Vec<Layer>, AllocError>
+fn empty_layers(alloc: Global, count: usize, hasher: SeededState) -> Result<Vec<Layer>, AllocError>
     ensures { IfOk result (λ layers. layers.items ≡ replicate count empty) }
 {
     let mut layers = Vec::with_capacity(alloc, count)?;
     for _ in 0..count {
-        layers.push(Layer::new(alloc))?;
+        layers.push(Layer::new(alloc, hasher))?;
     }
     Ok(layers)
 }

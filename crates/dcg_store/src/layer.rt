@@ -9,6 +9,7 @@ ghost use Rattle.dcg_store.specs.Layers.{live_in, HasWidth};
 
 use flux_model::State;
 use indexmap::IndexMap;
+use seeded_hash::SeededState;
 use std::alloc::{AllocError, Global};
 use std::marker::Model;
 
@@ -18,7 +19,7 @@ use std::marker::Model;
 #[derive(Drop)]
 pub(crate) struct Layer {
     /// How many joints lead into each pair that has a row.
-    ins: IndexMap<u32, u32>,
+    ins: IndexMap<u32, u32, SeededState>,
     /// For each row in turn, how many joints lead on to each child.
     outs: Vec<u32>,
     /// How many out counters a row has. Without rows it may be any number.
@@ -45,12 +46,12 @@ impl Model for Layer {
 }
 
 impl Layer {
-    /// No rows.
-    pub(crate) fn new(alloc: Global) -> Layer
+    /// No rows. Graph vertices are to be hashed so.
+    pub(crate) fn new(alloc: Global, hasher: SeededState) -> Layer
         ensures { result ≡ empty }
     {
         Layer {
-            ins: IndexMap::new(alloc),
+            ins: IndexMap::with_hasher(alloc, hasher),
             outs: Vec::new(alloc),
             width: 0,
             live: 0,

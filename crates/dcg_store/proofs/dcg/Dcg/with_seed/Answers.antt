@@ -1,7 +1,7 @@
 use Rattle.std.proofs.Common.{length, sym, ap, ◌∙◌}
 use Rattle.dcg_store.proofs.RowsLemmas.{begins, begun}
 use Rattle.std.specs.FinMap.{empty}
-use Rattle.dcg_store.proofs.dcg.Dcg.new.Goals as goal
+use Rattle.dcg_store.proofs.dcg.Dcg.with_seed.Goals as goal
 
 pub invariant_of-result : goal.invariant_of-result
 invariant_of-result c =
