@@ -3,9 +3,8 @@ ghost use Rattle.std.specs.Prelude.{OnOk};
 ghost use Rattle.pattern_registry.specs.States.{AreExact};
 
 use crate::maps::are_maps;
-use flux_model::{Code, Deltas, Steps, Tally, Update};
-use graph_traits::HoldGraph;
-use label_graph::LabelGraph;
+use flux_model::{Code, Deltas, Ledger, Steps, Tally, Update};
+use graph_traits::{KeepGraph, ReadGraph};
 use pattern_registry::Registry;
 use std::alloc::{AllocError, Global};
 use std::test::Fail;
@@ -108,10 +107,23 @@ fn is_right(alloc: Global, row: &Row) -> Result<bool, Unmade> {
     let patterns = patterns_of(alloc, row.patterns)?;
     let mut steps = Steps::new(Tally::new());
     let mut registry = Registry::start(alloc, patterns, &graph, &mut steps)?;
-    for i in 0..row.turns.len() {
-        let (line, due) = row.turns[i];
+    takes_each(alloc, &mut registry, &mut graph, row.turns, &mut steps)
+}
+
+/// Lets the registry take the update of each line: whether it answers so, and is whole behind the last.
+fn takes_each<G: KeepGraph + ReadGraph<L>, L: Ledger>(
+    alloc: Global,
+    registry: &mut Registry,
+    graph: &mut G,
+    turns: &[Turn],
+    steps: &mut Steps<L>,
+) -> Result<bool, Unmade>
+    requires { AreExact registry.old (G.graph graph.old) }
+{
+    for i in 0..turns.len() {
+        let (line, due) = turns[i];
         let update = update_of(alloc, line)?;
-        if !takes(&mut registry, &mut graph, &update, due, &mut steps)? {
+        if !takes(registry, graph, &update, due, steps)? {
             return Ok(false);
         }
     }
@@ -119,22 +131,38 @@ fn is_right(alloc: Global, row: &Row) -> Result<bool, Unmade> {
 }
 
 /// Lets the registry take the update: whether it answers so.
-fn takes(
+fn takes<G: KeepGraph + ReadGraph<L>, L: Ledger>(
     registry: &mut Registry,
-    graph: &mut LabelGraph,
+    graph: &mut G,
     update: &Update,
     due: Result<&[Change], Code>,
-    steps: &mut Steps<Tally>,
+    steps: &mut Steps<L>,
 ) -> Result<bool, AllocError>
-    requires { AreExact registry.old (LabelGraph.graph graph.old) }
-    ensures { OnOk result (AreExact registry.new (LabelGraph.graph graph.new)) }
+    requires { AreExact registry.old (G.graph graph.old) }
+    ensures { OnOk result (AreExact registry.new (G.graph graph.new)) }
 {
     match registry.apply(graph, update, steps)? {
         Ok(mut deltas) => {
             deltas.sort()?;
-            Ok(due.is_ok_and(|changes| are_changes(&deltas, changes)))
+            Ok(are_due(&deltas, due))
         }
-        Err(code) => Ok(due == Err(code)),
+        Err(code) => Ok(is_due(code, due)),
+    }
+}
+
+/// Whether these deltas are what is due.
+fn are_due(deltas: &Deltas, due: Result<&[Change], Code>) -> bool {
+    match due {
+        Ok(changes) => are_changes(deltas, changes),
+        Err(_) => false,
+    }
+}
+
+/// Whether this refusal is what is due.
+fn is_due(code: Code, due: Result<&[Change], Code>) -> bool {
+    match due {
+        Ok(_) => false,
+        Err(word) => code == word,
     }
 }
 
