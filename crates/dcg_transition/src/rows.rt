@@ -27,7 +27,7 @@ pub fn build<G: ReadGraph<L>, L: Ledger>(
 {
     let depths = depths(alloc, tree)?;
     let counts = child_counts(alloc, tree)?;
-    let mut dcg = Dcg::new(alloc, counts.as_slice())?;
+    let mut dcg = Dcg::with_seed(alloc, counts.as_slice(), graph.seed())?;
     reach(
         alloc,
         graph,
