@@ -16,31 +16,7 @@ use flux_model::{Limits, Patterns};
 use flux_outside::Shelf;
 use graph_traits::KeepGraph;
 use pattern_check::PatternReader;
-use plain_match::PlainGraph;
 use std::alloc::Global;
-
-/// The graph of the file of this name, as two plain lists.
-pub fn read_graph<F: Shelf>(
-    alloc: Global,
-    limits: &Limits,
-    shelf: &mut F,
-    name: &str,
-) -> Result<PlainGraph, Stop>
-    requires { IsFair limits.now }
-    ensures ok { IfOk result (λ kept. FileIs (F.files shelf.old) name.now (graph_file limits.now) (Ok kept.graph)) }
-    ensures limits { IfOk result (λ kept. kept.limits ≡ limits.now) }
-    ensures same { F.files shelf.new ≡ F.files shelf.old }
-    ensures later { F.faults shelf.old ≤ F.faults shelf.new }
-    ensures stop { IfErr result (StopWhere
-        (λ verdict. FileIs (F.files shelf.old) name.now (graph_file limits.now) (Err verdict))
-        BadGraph (Rose (F.faults shelf.old) (F.faults shelf.new))) }
-    ensures asked { AskedOfInput limits.now.input_bytes (StopsAtFault result) (WentOn result)
-        (NoLineRefused (F.files shelf.old) name.now (graph_front limits.now)) (FileReads name.now (F.reads shelf.old) (F.reads shelf.new)) }
-{
-    let mut graph = PlainGraph::new(alloc, limits);
-    read_file(alloc, limits, shelf, name, &mut graph)?;
-    Ok(graph)
-}
 
 /// The store, which was empty, with the graph of the file of this name.
 pub fn read_store<F: Shelf, G: KeepGraph>(

@@ -16,13 +16,14 @@ use Rattle.flux_model.specs.declared.limits.Limits.{Limits}
 use Rattle.flux_laws.proofs.VerdictsLemmas.{written}
 use Rattle.stream_lines.specs.Waiting.{Waiting}
 use Rattle.stream_lines.specs.Follows.{Follows}
-use Rattle.watch_cli.specs.Session.{WatchState, first_state, said_by, next_blocks, last_text}
+use Rattle.watch_core.specs.Session.{WatchState, first_state, said_by, after_all, next_blocks, last_text}
 use Rattle.watch_cli.specs.UpdatesProgress.{Followed}
 use Rattle.watch_cli.specs.RunEnds.{KnownOrSome, EndsAs, EndsBefore, EndsAtFault, StatusWhere}
 use Rattle.watch_cli.specs.EarlyEnds.{IsEarly, WriteEnds}
+use Rattle.watch_cli.specs.Kept.{after_bytes}
 use Rattle.watch_cli.specs.declared.status.Status.{Status}
 use Rattle.watch_cli.specs.declared.status.Status.TheVariants as status
-use Rattle.watch_cli.proofs.ReportLemmas.{last_text-first, AppendsFront-all, AppendsFront-longer, AppendsFront-after, Followed-short, whole_text}
+use Rattle.watch_cli.proofs.ReportLemmas.{last_text-first, AppendsFront-all, AppendsFront-longer, AppendsFront-after, Followed-short, whole_text, whole_state}
 
 -- ---- bytes that may not be told
 
@@ -55,6 +56,13 @@ Consumes-none a b buf n zero read = subst (λ (k : ℕ). Consumes a b (take k bu
 pub EndsAs-before : (left : Option (List ℕ)) (ending : List ℕ → Ending) (p0 p1 : Option (List ℕ)) (v : Verdict) → EndsAs left ending p0 p1 v → EndsBefore left ending p0 p1
 EndsAs-before left ending p0 p1 v h =
     KnownOrSome-map left (λ s. ((ending s).verdict ≡ v) × Appends p0 p1 (ending s).text) (λ s. AppendsFront p0 p1 (ending s).text) (λ s so. AppendsFront-all p0 p1 (ending s).text so.1) h
+
+-- ---- the state before the first line
+
+-- it is told by its graph and patterns
+pub is_first : (w : WatchState) (l limits : Limits) (g : Graph) (qs : List PatternGraph) → w ≡ first_state l g qs → l ≡ limits → w ≡ first_state limits w.graph w.patterns
+is_first w l limits g qs is same =
+    is ∙ ap (λ k. first_state k g qs) same ∙ ap (λ (v : WatchState). first_state limits v.graph v.patterns) (sym is)
 
 -- ---- the ending of the updates
 
@@ -149,6 +157,14 @@ module _ (limits : Limits) (g : Graph) (qs : List PatternGraph) where
         ends-done l0 l2 p0 p2 so.bytes (subst (Consumes l0 l2) (append-nil so.bytes) (Consumes-trans l0 l1 l2 so.bytes [] so.read read)) end (omega (arith, so.count, within))
         (subst (Appends p0 p2) (whole_text limits.line_bytes given l0 l1 p0 p1 first now w last so ended ∙ ap (λ f. last_text f (said_by (lines limits.line_bytes so.bytes))) is)
         (Appends-trans p0 p1 p2 (next_blocks first (said_by (whole limits.line_bytes so.bytes))) (last_text now (said_by last)) so.written put))
+
+    -- the source is at its end, and all lines were taken
+    pub Followed-stands : (l2 : Option (List ℕ)) (next : WatchState) (last : List InputLine) → Followed limits.line_bytes given l0 l1 p0 p1 first now w → Consumes l1 l2 [] → IsAtEnd l2
+        → ((b : List ℕ) → rest w.line_bytes b ≡ w.rest → lines w.line_bytes b ≡ whole w.line_bytes b ++ last)
+        → next ≡ after_all now (said_by last) → KnownOrSome l0 (λ s. next ≡ after_bytes limits first s)
+    Followed-stands l2 next last so read end ended after =
+        KnownOrSome-whole l0 l2 so.bytes (λ s. next ≡ after_bytes limits first s) (subst (Consumes l0 l2) (append-nil so.bytes) (Consumes-trans l0 l1 l2 so.bytes [] so.read read)) end
+        (whole_state limits.line_bytes given l0 l1 p0 p1 first now next w last so ended after)
 
     -- the source is at its end, and a front part was put
     pub Followed-done_short : (l2 p2 : Option (List ℕ)) (last : List InputLine) → Followed limits.line_bytes given l0 l1 p0 p1 first now w → Consumes l1 l2 [] → IsAtEnd l2 → given ≤ limits.input_bytes

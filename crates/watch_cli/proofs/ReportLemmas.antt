@@ -19,7 +19,7 @@ use Rattle.flux_model.specs.declared.limits.Limits.{Limits}
 use Rattle.stream_lines.specs.Waiting.{Waiting}
 use Rattle.stream_lines.specs.Follows.{Follows}
 use Rattle.stream_lines.proofs.CallerLemmas.{length-whole, rest-nil}
-use Rattle.watch_cli.specs.Session.{WatchState, first_state, said_by, counted, after_said, after_all, next_block, next_blocks, end_text, last_text}
+use Rattle.watch_core.specs.Session.{WatchState, first_state, said_by, counted, after_said, after_all, next_block, next_blocks, end_text, last_text}
 use Rattle.watch_cli.specs.ReportProgress.{Wrote}
 use Rattle.watch_cli.specs.UpdatesProgress.{Followed}
 
@@ -329,12 +329,26 @@ Followed-short n given l0 l1 p0 p1 p2 first now w0 w1 piece so follows front =
     ∙ sym (ap (next_blocks first) (said-pushed n so.bytes piece w1.queue add) ∙ next_blocks-append first (said_by (whole n so.bytes)) (said_by w1.queue)))
     (AppendsFront-after p0 p1 p2 (next_blocks first (said_by (whole n so.bytes))) (next_blocks now (said_by w1.queue)) so.written front)
 
+-- all lines of what was read, where the source is at its end
+all_lines : (n given : ℕ) (l0 l1 p0 p1 : Option (List ℕ)) (first now : WatchState) (w : Waiting) (last : List InputLine) (so : Followed n given l0 l1 p0 p1 first now w)
+    → ((b : List ℕ) → rest w.line_bytes b ≡ w.rest → lines w.line_bytes b ≡ whole w.line_bytes b ++ last) → lines n so.bytes ≡ whole n so.bytes ++ last
+all_lines n given l0 l1 p0 p1 first now w last so ended =
+    ap (λ k. lines k so.bytes) (sym so.limit) ∙ ended so.bytes (ap (λ k. rest k so.bytes) so.limit ∙ sym so.rest) ∙ ap (λ k. whole k so.bytes ++ last) so.limit
+
 -- the text of all that was read, where the source is at its end
 pub whole_text : (n given : ℕ) (l0 l1 p0 p1 : Option (List ℕ)) (first now : WatchState) (w : Waiting) (last : List InputLine) (so : Followed n given l0 l1 p0 p1 first now w)
     → ((b : List ℕ) → rest w.line_bytes b ≡ w.rest → lines w.line_bytes b ≡ whole w.line_bytes b ++ last)
     → next_blocks first (said_by (whole n so.bytes)) ++ last_text now (said_by last) ≡ last_text first (said_by (lines n so.bytes))
 whole_text n given l0 l1 p0 p1 first now w last so ended =
-    let all : lines n so.bytes ≡ whole n so.bytes ++ last =
-    ap (λ k. lines k so.bytes) (sym so.limit) ∙ ended so.bytes (ap (λ k. rest k so.bytes) so.limit ∙ sym so.rest) ∙ ap (λ k. whole k so.bytes ++ last) so.limit in
+    let all = all_lines n given l0 l1 p0 p1 first now w last so ended in
     ap (λ (s : WatchState). next_blocks first (said_by (whole n so.bytes)) ++ last_text s (said_by last)) so.state
     ∙ sym (ap (λ ls. last_text first (said_by ls)) all ∙ ap (last_text first) (map-append update_reading (whole n so.bytes) last) ∙ last_text-append first (said_by (whole n so.bytes)) (said_by last))
+
+-- the state after all that was read, where the source is at its end
+pub whole_state : (n given : ℕ) (l0 l1 p0 p1 : Option (List ℕ)) (first now next : WatchState) (w : Waiting) (last : List InputLine) (so : Followed n given l0 l1 p0 p1 first now w)
+    → ((b : List ℕ) → rest w.line_bytes b ≡ w.rest → lines w.line_bytes b ≡ whole w.line_bytes b ++ last) → next ≡ after_all now (said_by last)
+    → next ≡ after_all first (said_by (lines n so.bytes))
+whole_state n given l0 l1 p0 p1 first now next w last so ended after =
+    let all = all_lines n given l0 l1 p0 p1 first now w last so ended in
+    after ∙ ap (λ (s : WatchState). after_all s (said_by last)) so.state
+    ∙ sym (ap (λ ls. after_all first (said_by ls)) all ∙ ap (after_all first) (map-append update_reading (whole n so.bytes) last) ∙ after_all-append first (said_by (whole n so.bytes)) (said_by last))

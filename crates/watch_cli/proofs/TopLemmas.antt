@@ -1,5 +1,5 @@
 -- How a run ends, from how its parts do.
-use Rattle.std.proofs.Common.{◌≡◌, ◌⊎◌, ◌↔◌, ◌≤◌, ℕ, List, [], Option, None, Some, Result, Ok, Err, IsOk, IfSome, OnOk, OnErr, inl, inr, refl, sym, ap, ◌∙◌, subst, arith}
+use Rattle.std.proofs.Common.{◌≡◌, ◌⊎◌, ◌↔◌, ◌≤◌, ℕ, false, List, [], Option, None, Some, Result, Ok, Err, IsOk, IfSome, OnOk, OnErr, inl, inr, refl, sym, ap, ◌∙◌, subst, arith}
 use Rattle.std.specs.Io.KnownBytes.{Appends}
 use Rattle.std.proofs.KnownBytes.{Appends-nil, Consumes-nil}
 use Rattle.flux_outside.specs.Causes.{Rose}
@@ -22,6 +22,10 @@ use Rattle.watch_cli.specs.declared.status.InputFile.{InputFile}
 use Rattle.watch_cli.specs.declared.status.InputFile.TheVariants as input
 use Rattle.watch_cli.specs.declared.status.Status.{Status}
 use Rattle.watch_cli.specs.declared.status.Status.TheVariants as status
+use Rattle.watch_core.specs.Session.{WatchState, first_state}
+use Rattle.watch_core.specs.SessionStates.{SessionState, watched}
+use Rattle.watch_cli.specs.Kept.{after_bytes, StandsAfter, IsSessionOf, HasKept}
+use Rattle.watch_cli.specs.declared.top.Kept.TheVariants as kept
 use Rattle.watch_cli.proofs.ReportLemmas.{AppendsFront-nothing}
 use Rattle.watch_cli.proofs.FollowLemmas.{KnownOrSome-map, KnownOrSome-any, EndsAs-before}
 
@@ -109,12 +113,6 @@ run-ends_before limits (Some m) shape left p0 p1 a h e =
     KnownOrSome-map left (λ s. AppendsFront p0 p1 (ending_with limits s a).text) (λ s. AppendsFront p0 p1 (ending_for limits m (Some shape) s).text)
     (λ s so. subst (AppendsFront p0 p1) (sym (ap (λ (e : Ending). e.text) (ending-is limits m shape s (Ok a) h))) so) e
 
--- it went on to its end, or not
-pub run-either : (r : Result (Unit {0}) Status) (limits : Limits) (files : Option Files) (shape : Shape) (left p0 p1 : Option (List ℕ)) (a : Accepted) → Judged limits files (Some shape) (Ok a)
-    → OnOk r (EndsAs left (λ s. ending_with limits s a) p0 p1 verdict.Done) → OnErr r (EndsBefore left (λ s. ending_with limits s a) p0 p1) → RunEndsBefore limits files (Some shape) left p0 p1
-run-either (Ok _) limits files shape left p0 p1 a h all front = run-ends_before limits files shape left p0 p1 a h (EndsAs-before left (λ s. ending_with limits s a) p0 p1 verdict.Done all)
-run-either (Err _) limits files shape left p0 p1 a h all front = run-ends_before limits files shape left p0 p1 a h front
-
 -- ---- why a read fails
 
 written-nothing : (limits : Limits) (r : Result Accepted Verdict) → written_of limits r [] ≡ []
@@ -201,6 +199,22 @@ early-usage s asked shape early is = (λ usage. absurd (subst IsEarly usage earl
 -- a run that ended early is not done
 pub early-done : (s : Status) (P : Type 0) → IsEarly s → s ≡ status.Done → P
 early-done s P early done = absurd (subst IsEarly done early)
+
+-- so it hands nothing back
+pub early-kept : (limits : Limits) (files : Option Files) (asked : Option Shape) (left : Option (List ℕ)) (s : Status) → IsEarly s → HasKept limits files asked left s kept.Nothing
+early-kept limits files asked left s early = λ so. absurd (subst IsEarly so.done early)
+
+-- the session of a watch that took all lines
+pub session-stands : (limits : Limits) (files : Option Files) (shape : Shape) (left : Option (List ℕ)) (g : Graph) (qs : List PatternGraph) (first : WatchState) (session : SessionState)
+    → Judged limits files (Some shape) (Ok (Watched g qs)) → first ≡ first_state limits g qs → session.is_broken ≡ false
+    → KnownOrSome left (λ s. watched session ≡ after_bytes limits first s) → IsSessionOf limits files (Some shape) left session
+session-stands limits files shape left g qs first session judged is whole after = record { whole = whole; after = by files judged }
+  where
+    by : (f : Option Files) → Judged limits f (Some shape) (Ok (Watched g qs)) → IfSome f (λ m. KnownOrSome left (λ s. StandsAfter limits (inputs limits m (Some shape)) s (watched session)))
+    by None j = tt
+    by (Some m) j =
+        KnownOrSome-map left (λ s. watched session ≡ after_bytes limits first s) (λ s. StandsAfter limits (inputs limits m (Some shape)) s (watched session))
+        (λ s so. subst (λ r. StandsAfter limits r s (watched session)) (sym j) (so ∙ ap (λ f. after_bytes limits f s) is)) after
 
 -- a text that is due whatever the updates are
 pub text-put : (left : Option (List ℕ)) (ending : List ℕ → Ending) (text : List ℕ) (p0 p1 : Option (List ℕ)) → ((s : List ℕ) → ending s ≡ record { verdict = verdict.Done; text = text }) → Appends p0 p1 text → EndsAs left ending p0 p1 verdict.Done

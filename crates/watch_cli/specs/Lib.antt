@@ -1,10 +1,8 @@
 pub mod CommandWords
 pub mod Status
-pub mod Session
-pub mod LineAnswers
-pub mod PatternDeltas
 pub mod ReportProgress
 pub mod UpdatesProgress
 pub mod RunEnds
+pub mod Kept
 pub mod EarlyEnds
 pub mod AskedByRun

@@ -3,7 +3,7 @@ use Rattle.std.specs.Prelude.{◌≡◌, ℕ, List, [], length, Option}
 use Rattle.std.specs.Io.KnownBytes.{Appends, Consumes}
 use Rattle.flux_model.specs.Lines.{whole, rest}
 use Rattle.stream_lines.specs.Waiting.{Waiting}
-use Rattle.watch_cli.specs.Session.{WatchState, said_by, after_all, next_blocks}
+use Rattle.watch_core.specs.Session.{WatchState, said_by, after_all, next_blocks}
 
 -- after so many bytes of the updates: the block of each whole line of them was put, and what has come of the next waits
 pub record Followed (line_bytes given : ℕ) (left0 left1 put0 put1 : Option (List ℕ)) (first now : WatchState)

@@ -1,18 +1,16 @@
 //! The program's one call: from the words of the command line to the exit status.
 //!
 //! - `top`: `run`, the one call; `words`: the shapes of the command line; `status`: how a run ends.
-//! - `watch`: the shape `watch GRAPH PATTERNS`; `updates`: its updates, read piece by piece; `session`: one line of them;
-//!   `embeddings`: what it changed; `report`: the blocks that are gathered and put.
+//! - `watch`: the shape `watch GRAPH PATTERNS`; `updates`: its updates, read piece by piece; `report`: the blocks that are
+//!   gathered and put.
 //! - `answers`: the shape `match GRAPH PATTERNS`; `save`: the shape `save GRAPH`.
 #![tactic(auto)]
 
 mod answers;
-mod embeddings;
 #[cfg(test)]
 mod order_tests;
 mod report;
 mod save;
-mod session;
 mod status;
 mod top;
 mod updates;

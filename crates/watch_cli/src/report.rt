@@ -1,21 +1,22 @@
 //! Blocks are gathered in a report, which is put when it is long, and before the next read.
-ghost use Rattle.std.specs.Prelude.{◌≡◌, ◌≤◌, ◌<◌, ◌+◌, ◌^◌, ◌++◌, [], length, OnOk, OnErr, IfErr};
+ghost use Rattle.std.specs.Prelude.{◌≡◌, ◌≤◌, ◌<◌, ◌+◌, ◌^◌, ◌++◌, [], false, length, OnOk, OnErr, IfErr};
 ghost use Rattle.std.specs.Io.KnownBytes.{Appends};
 ghost use Rattle.flux_outside.specs.Reads.{NoEmptyPut};
 ghost use Rattle.flux_outside.specs.Told.{AppendsFront};
 ghost use Rattle.flux_model.specs.LentLine.{seen_line};
 ghost use Rattle.flux_model.specs.Reading.{update_reading};
-ghost use Rattle.watch_cli.specs.Session.{after_said, after_all, next_block, next_blocks, said_by, last_text, end_text};
+ghost use Rattle.watch_core.specs.Session.{after_said, after_all, next_block, next_blocks, said_by, last_text, end_text};
+ghost use Rattle.watch_core.specs.SessionStates.{watched};
 ghost use Rattle.stream_lines.specs.Lent.{one_line};
 ghost use Rattle.watch_cli.specs.ReportProgress.{Wrote};
 ghost use Rattle.watch_cli.specs.EarlyEnds.{WriteEnds};
 
-use crate::session::Session;
 use crate::status::Status;
-use flux_model::Line;
+use flux_model::{Ledger, Line, Steps};
 use flux_outside::Sink;
-use std::alloc::Global;
+use graph_traits::{KeepGraph, ReadGraph};
 use stream_lines::Lines;
+use watch_core::Session;
 
 /// How long a report may grow before it is put.
 const LONG: usize = 65536;
@@ -42,24 +43,26 @@ pub fn put_report<W: Sink>(report: &mut Vec<u8>, out: &mut W) -> Result<(), Stat
 }
 
 /// Takes a line, and adds its block to the report. Where memory is refused, what was gathered is put first.
-pub fn report_line<W: Sink>(
-    alloc: Global,
-    session: &mut Session,
+pub fn report_line<G: KeepGraph + ReadGraph<L>, W: Sink, L: Ledger>(
+    session: &mut Session<G>,
     line: &Line<'_>,
     report: &mut Vec<u8>,
     out: &mut W,
+    steps: &mut Steps<L>,
 ) -> Result<(), Status>
-    requires { session.old.lines < 2 ^ 60 }
-    ensures after { OnOk result (session.new ≡ after_said session.old (update_reading (seen_line line.now))) }
+    requires whole { session.old.is_broken ≡ false }
+    requires few { session.old.lines < 2 ^ 60 }
+    ensures after { OnOk result (watched session.new ≡ after_said (watched session.old) (update_reading (seen_line line.now))) }
+    ensures whole { OnOk result (session.new.is_broken ≡ false) }
     ensures ok { OnOk result (Wrote (W.taken out.old) (W.taken out.new) report.old.items report.new.items
-        (next_block session.old (update_reading (seen_line line.now)))) }
+        (next_block (watched session.old) (update_reading (seen_line line.now)))) }
     ensures err { OnErr result (AppendsFront (W.taken out.old) (W.taken out.new)
-        (report.old.items ++ next_block session.old (update_reading (seen_line line.now)))) }
+        (report.old.items ++ next_block (watched session.old) (update_reading (seen_line line.now)))) }
     ensures later { W.faults out.old ≤ W.faults out.new }
     ensures status { IfErr result (WriteEnds (W.faults out.old) (W.faults out.new)) }
     ensures puts { NoEmptyPut (W.puts out.old) (W.puts out.new) }
 {
-    let Ok(()) = session.line(alloc, line, report) else {
+    let Ok(()) = session.line(line, report, steps) else {
         let _ = put_report(report, out);
         return Err(Status::Memory);
     };
@@ -70,43 +73,52 @@ pub fn report_line<W: Sink>(
 }
 
 /// Takes every line that waits, and puts the blocks.
-pub fn report_waiting<W: Sink>(
-    alloc: Global,
-    session: &mut Session,
+pub fn report_waiting<G: KeepGraph + ReadGraph<L>, W: Sink, L: Ledger>(
+    session: &mut Session<G>,
     lines: &mut Lines,
     report: &mut Vec<u8>,
     out: &mut W,
+    steps: &mut Steps<L>,
 ) -> Result<(), Status>
+    requires whole { session.old.is_broken ≡ false }
     requires fits { session.old.lines + length lines.old.queue ≤ 2 ^ 60 }
     requires empty { report.old.items ≡ [] }
-    ensures after { OnOk result (session.new ≡ after_all session.old (said_by lines.old.queue)) }
-    ensures ok { OnOk result (Appends (W.taken out.old) (W.taken out.new) (next_blocks session.old (said_by lines.old.queue))) }
+    ensures after { OnOk result (watched session.new ≡ after_all (watched session.old) (said_by lines.old.queue)) }
+    ensures whole { OnOk result (session.new.is_broken ≡ false) }
+    ensures ok { let text = next_blocks (watched session.old) (said_by lines.old.queue) in
+        OnOk result (Appends (W.taken out.old) (W.taken out.new) text) }
     ensures empty { OnOk result (report.new.items ≡ []) }
     ensures waiting { OnOk result (lines.new ≡ record lines.old { queue = [] }) }
-    ensures err { OnErr result (AppendsFront (W.taken out.old) (W.taken out.new) (next_blocks session.old (said_by lines.old.queue))) }
+    ensures err { let text = next_blocks (watched session.old) (said_by lines.old.queue) in
+        OnErr result (AppendsFront (W.taken out.old) (W.taken out.new) text) }
     ensures later { W.faults out.old ≤ W.faults out.new }
     ensures status { IfErr result (WriteEnds (W.faults out.old) (W.faults out.new)) }
     ensures puts { NoEmptyPut (W.puts out.old) (W.puts out.new) }
 {
     while let Some(line) = lines.first() {
-        report_line(alloc, session, &line, report, out)?;
+        report_line(session, &line, report, out, steps)?;
         lines.pass();
     }
     put_report(report, out)
 }
 
 /// Takes the last line, if there is one, and puts its block and the end line.
-pub fn report_end<W: Sink>(
-    alloc: Global,
-    session: &mut Session,
+pub fn report_end<G: KeepGraph + ReadGraph<L>, W: Sink, L: Ledger>(
+    session: &mut Session<G>,
     last: Option<Line<'_>>,
     report: &mut Vec<u8>,
     out: &mut W,
+    steps: &mut Steps<L>,
 ) -> Result<(), Status>
+    requires whole { session.old.is_broken ≡ false }
     requires fits { session.old.lines < 2 ^ 60 }
     requires empty { report.old.items ≡ [] }
-    ensures ok { OnOk result (Appends (W.taken out.old) (W.taken out.new) (last_text session.old (said_by (one_line last.entry)))) }
-    ensures err { OnErr result (AppendsFront (W.taken out.old) (W.taken out.new) (last_text session.old (said_by (one_line last.entry)))) }
+    ensures after { OnOk result (watched session.new ≡ after_all (watched session.old) (said_by (one_line last.entry))) }
+    ensures whole { OnOk result (session.new.is_broken ≡ false) }
+    ensures ok { let text = last_text (watched session.old) (said_by (one_line last.entry)) in
+        OnOk result (Appends (W.taken out.old) (W.taken out.new) text) }
+    ensures err { let text = last_text (watched session.old) (said_by (one_line last.entry)) in
+        OnErr result (AppendsFront (W.taken out.old) (W.taken out.new) text) }
     ensures later { W.faults out.old ≤ W.faults out.new }
     ensures status { IfErr result (WriteEnds (W.faults out.old) (W.faults out.new)) }
     ensures puts { NoEmptyPut (W.puts out.old) (W.puts out.new) }
@@ -114,16 +126,20 @@ pub fn report_end<W: Sink>(
     match last {
         None => end_report(session, report, out),
         Some(line) => {
-            report_line(alloc, session, &line, report, out)?;
+            report_line(session, &line, report, out, steps)?;
             end_report(session, report, out)
         }
     }
 }
 
 /// Puts the report with the end line behind it. Where memory is refused, what was gathered is put first.
-fn end_report<W: Sink>(session: &Session, report: &mut Vec<u8>, out: &mut W) -> Result<(), Status>
-    ensures ok { OnOk result (Appends (W.taken out.old) (W.taken out.new) (report.old.items ++ end_text session.now)) }
-    ensures err { OnErr result (AppendsFront (W.taken out.old) (W.taken out.new) (report.old.items ++ end_text session.now)) }
+fn end_report<G: KeepGraph, W: Sink>(
+    session: &Session<G>,
+    report: &mut Vec<u8>,
+    out: &mut W,
+) -> Result<(), Status>
+    ensures ok { OnOk result (Appends (W.taken out.old) (W.taken out.new) (report.old.items ++ end_text (watched session.now))) }
+    ensures err { OnErr result (AppendsFront (W.taken out.old) (W.taken out.new) (report.old.items ++ end_text (watched session.now))) }
     ensures later { W.faults out.old ≤ W.faults out.new }
     ensures status { IfErr result (WriteEnds (W.faults out.old) (W.faults out.new)) }
     ensures puts { NoEmptyPut (W.puts out.old) (W.puts out.new) }

@@ -1,5 +1,5 @@
 //! The one call that the program makes.
-ghost use Rattle.std.specs.Prelude.{◌≡◌, ◌⊎◌, ◌↔◌, [], None, Some, IsOk, IsErr, ⊤, OnOk, IfErr, IfSome, MatchOption};
+ghost use Rattle.std.specs.Prelude.{◌≡◌, ◌⊎◌, ◌↔◌, [], None, Some, IsOk, IsErr, ⊤, IfOk, OnOk, IfErr, IfSome, MatchOption};
 ghost use Rattle.std.specs.Io.KnownBytes.{Appends, IsAtEnd};
 ghost use Rattle.flux_outside.specs.Causes.{Rose};
 ghost use Rattle.flux_outside.specs.Reads.{NoEmptyPut};
@@ -12,6 +12,7 @@ ghost use Rattle.watch_cli.specs.AskedByRun.{IsReadStatus, IsFileStatus, EndsAtR
 ghost use Rattle.watch_cli.specs.RunEnds.{KnownOrSome, verdict_of, inputs, written_of, OneRose, EndsAtFault};
 ghost use Rattle.watch_cli.specs.RunEnds.{RunEndsAs, RunEndsBefore, ReadFails, StatusWhere};
 ghost use Rattle.watch_cli.specs.EarlyEnds.{IsEarly};
+ghost use Rattle.watch_cli.specs.Kept.{HasKept};
 
 use crate::answers::list_answers;
 use crate::save::save_graph;
@@ -22,22 +23,25 @@ use flux_model::{Ledger, Limits, Steps};
 use flux_outside::{Shelf, Sink, Source};
 use label_graph::LabelGraph;
 use std::alloc::Global;
+use watch_core::Session;
 
 /// What a run hands back besides its status.
-#[derive(Clone, Copy, Debug, PartialEq, Eq)]
+#[derive(Drop)]
 pub enum Kept {
     /// Nothing is handed back.
     Nothing,
+    /// The session of a watch, which stands after all lines of the updates.
+    Watch(Session<LabelGraph>),
 }
 
 /// How a run ended, and what it hands back.
-#[derive(Clone, Copy, Debug, PartialEq, Eq)]
+#[derive(Drop)]
 pub struct Ended {
     pub status: Status,
     pub kept: Kept,
 }
 
-/// Does what the words of this shape ask for.
+/// Does what the words of this shape ask for, and hands back what it keeps.
 fn work<F: Shelf, S: Source, W: Sink, L: Ledger>(
     alloc: Global,
     limits: &Limits,
@@ -46,10 +50,12 @@ fn work<F: Shelf, S: Source, W: Sink, L: Ledger>(
     updates: &mut S,
     out: &mut W,
     steps: &mut Steps<L>,
-) -> Result<(), Status>
+) -> Result<Kept, Status>
     requires { IsFair limits.now }
     ensures end { OnOk result (ReadsUpdates (seen_shape shape.entry) → IsAtEnd (S.left updates.new)) }
     ensures unread { ¬ ReadsUpdates (seen_shape shape.entry) → updates.new ≡ updates.old }
+    ensures kept { IfOk result (λ kept. HasKept limits.now (F.files shelf.old) (Some (seen_shape shape.entry))
+        (S.left updates.old) Status.Done kept) }
     ensures ok { OnOk result (RunEndsAs limits.now (F.files shelf.old) (Some (seen_shape shape.entry))
         (S.left updates.old) (W.taken out.old) (W.taken out.new) Done) }
     ensures front { RunEndsBefore limits.now (F.files shelf.old) (Some (seen_shape shape.entry))
@@ -69,20 +75,26 @@ fn work<F: Shelf, S: Source, W: Sink, L: Ledger>(
 {
     match shape {
         Shape::Watch { graph, patterns } => {
-            watch_updates(alloc, limits, graph, patterns, shelf, updates, out)
+            let empty = LabelGraph::new(alloc, limits);
+            let session = watch_updates(
+                alloc, limits, graph, patterns, empty, shelf, updates, out, steps,
+            )?;
+            Ok(Kept::Watch(session))
         }
         Shape::Match { graph, patterns } => {
             let empty = LabelGraph::new(alloc, limits);
-            list_answers(alloc, limits, graph, patterns, empty, shelf, out, steps)
+            list_answers(alloc, limits, graph, patterns, empty, shelf, out, steps)?;
+            Ok(Kept::Nothing)
         }
         Shape::Save { graph } => {
             let empty = LabelGraph::new(alloc, limits);
-            save_graph(alloc, limits, graph, empty, shelf, out, steps)
+            save_graph(alloc, limits, graph, empty, shelf, out, steps)?;
+            Ok(Kept::Nothing)
         }
     }
 }
 
-// The status. It is a function of its own, so that no fact is lost where the cases join.
+// How it ends. It is a function of its own, so that no fact is lost where the cases join.
 fn judge<F: Shelf, S: Source, W: Sink, L: Ledger>(
     alloc: Global,
     words: &[String],
@@ -91,11 +103,12 @@ fn judge<F: Shelf, S: Source, W: Sink, L: Ledger>(
     updates: &mut S,
     out: &mut W,
     steps: &mut Steps<L>,
-) -> Status
+) -> Ended
     requires { IsFair limits.now }
-    ensures usage { (result ≡ Status.Usage) ↔ (shape_of (texts words.now) ≡ None) }
+    ensures usage { (result.status ≡ Status.Usage) ↔ (shape_of (texts words.now) ≡ None) }
     ensures unasked { MatchOption (shape_of (texts words.now)) (Appends (W.taken out.old) (W.taken out.new) []) (λ _. ⊤) }
-    ensures end { result ≡ Status.Done → IfSome (shape_of (texts words.now)) (λ shape. ReadsUpdates shape → IsAtEnd (S.left updates.new)) }
+    ensures end { result.status ≡ Status.Done
+        → IfSome (shape_of (texts words.now)) (λ shape. ReadsUpdates shape → IsAtEnd (S.left updates.new)) }
     ensures unread { MatchOption (shape_of (texts words.now)) (updates.new ≡ updates.old)
         (λ shape. ¬ ReadsUpdates shape → updates.new ≡ updates.old) }
     ensures front { RunEndsBefore limits.now (F.files shelf.old) (shape_of (texts words.now))
@@ -105,20 +118,30 @@ fn judge<F: Shelf, S: Source, W: Sink, L: Ledger>(
         (ReadFails limits.now (F.files shelf.old) (shape_of (texts words.now))
         (F.faults shelf.old) (F.faults shelf.new) (S.faults updates.old) (S.faults updates.new)
         (S.left updates.old) (S.left updates.new) (W.taken out.old) (W.taken out.new))
-        (Rose (W.faults out.old) (W.faults out.new)) result }
+        (Rose (W.faults out.old) (W.faults out.new)) result.status }
+    ensures kept { HasKept limits.now (F.files shelf.old) (shape_of (texts words.now)) (S.left updates.old) result.status result.kept }
     ensures asked { MatchOption (shape_of (texts words.now)) (F.reads shelf.new ≡ F.reads shelf.old)
-        (λ shape. AskedByRun limits.now (F.files shelf.old) shape (IsReadStatus result)
+        (λ shape. AskedByRun limits.now (F.files shelf.old) shape (IsReadStatus result.status)
         (F.reads shelf.old) (F.reads shelf.new) (S.reads updates.old) (S.reads updates.new)) }
-    ensures untouched { (updates.new ≡ updates.old) ⊎ (¬ IsFileStatus result
+    ensures untouched { (updates.new ≡ updates.old) ⊎ (¬ IsFileStatus result.status
         × IfSome (F.files shelf.old) (λ m. IsOk (inputs limits.now m (shape_of (texts words.now))))) }
     ensures puts { NoEmptyPut (W.puts out.old) (W.puts out.new) }
 {
     let Some(shape) = parse_shape(words) else {
-        return Status::Usage;
+        return Ended {
+            status: Status::Usage,
+            kept: Kept::Nothing,
+        };
     };
     match work(alloc, limits, shape, shelf, updates, out, steps) {
-        Ok(()) => Status::Done,
-        Err(status) => status,
+        Ok(kept) => Ended {
+            status: Status::Done,
+            kept,
+        },
+        Err(status) => Ended {
+            status,
+            kept: Kept::Nothing,
+        },
     }
 }
 
@@ -178,6 +201,7 @@ pub fn run<F: Shelf, S: Source, W: Sink, E: Sink, L: Ledger>(
         → IfSome (shape_of (texts words.now)) (λ shape. ReadsUpdates shape → IsAtEnd (S.left updates.new)) }
     ensures unread { MatchOption (shape_of (texts words.now)) (updates.new ≡ updates.old)
         (λ shape. ¬ ReadsUpdates shape → updates.new ≡ updates.old) }
+    ensures kept { HasKept limits.now (F.files shelf.old) (shape_of (texts words.now)) (S.left updates.old) result.status result.kept }
     ensures told { Appends (E.taken err.old) (E.taken err.new) (status_text result.status)
         ⊎ (Rose (E.faults err.old) (E.faults err.new) × AppendsFront (E.taken err.old) (E.taken err.new) (status_text result.status)) }
     ensures asked { MatchOption (shape_of (texts words.now)) (F.reads shelf.new ≡ F.reads shelf.old)
@@ -188,10 +212,7 @@ pub fn run<F: Shelf, S: Source, W: Sink, E: Sink, L: Ledger>(
         IsErr (inputs limits.now m (shape_of (texts words.now))) → updates.new ≡ updates.old) }
     ensures puts { NoEmptyPut (W.puts out.old) (W.puts out.new) × NoEmptyPut (E.puts err.old) (E.puts err.new) }
 {
-    let status = judge(alloc, words, limits, shelf, updates, out, steps);
-    tell(status, err);
-    Ended {
-        status,
-        kept: Kept::Nothing,
-    }
+    let ended = judge(alloc, words, limits, shelf, updates, out, steps);
+    tell(ended.status, err);
+    ended
 }

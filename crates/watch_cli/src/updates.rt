@@ -1,5 +1,5 @@
 //! The updates, read piece by piece.
-ghost use Rattle.std.specs.Prelude.{◌≡◌, ⊤, OnOk, OnErr, IfErr};
+ghost use Rattle.std.specs.Prelude.{◌≡◌, false, ⊤, OnOk, OnErr, IfErr};
 ghost use Rattle.std.specs.Io.KnownBytes.{IsAtEnd};
 ghost use Rattle.flux_outside.specs.Causes.{Rose};
 ghost use Rattle.flux_outside.specs.Reads.{AskedOfInput, SourceReads, NoEmptyPut};
@@ -7,39 +7,48 @@ ghost use Rattle.flux_model.specs.Limits.{IsFair};
 ghost use Rattle.flux_model.specs.Verdict.{Watched, Done, ending_with, written_before};
 ghost use Rattle.file_reading.specs.AskedOfFile.{WentOn};
 ghost use Rattle.watch_cli.specs.AskedByRun.{EndsAtReadFault, EndsAtFile};
-ghost use Rattle.watch_cli.specs.RunEnds.{EndsAs, EndsBefore, EndsAtFault, StatusWhere};
+ghost use Rattle.watch_cli.specs.RunEnds.{KnownOrSome, EndsAs, EndsBefore, EndsAtFault, StatusWhere};
+ghost use Rattle.watch_cli.specs.Kept.{after_bytes};
 ghost use Rattle.watch_cli.specs.EarlyEnds.{IsEarly};
-ghost use Rattle.watch_cli.specs.Session.{first_state};
+ghost use Rattle.watch_core.specs.Session.{first_state};
+ghost use Rattle.watch_core.specs.SessionStates.{watched};
 
 use crate::report::{report_end, report_waiting};
-use crate::session::Session;
 use crate::status::Status;
 use file_reading::{ask_for, make_buffer};
-use flux_model::Limits;
+use flux_model::{Ledger, Limits, Steps};
 use flux_outside::{Sink, Source};
+use graph_traits::{KeepGraph, ReadGraph};
 use std::alloc::Global;
 use stream_lines::Lines;
+use watch_core::Session;
 
 /// Takes every line of the updates, and puts its block before the next read, and at last the end line.
-pub fn follow<S: Source, W: Sink>(
+pub fn follow<G: KeepGraph + ReadGraph<L>, S: Source, W: Sink, L: Ledger>(
     alloc: Global,
     limits: &Limits,
-    session: &mut Session,
+    session: &mut Session<G>,
     updates: &mut S,
     out: &mut W,
+    steps: &mut Steps<L>,
 ) -> Result<(), Status>
     requires fair { IsFair limits.now }
-    requires first { session.old ≡ first_state limits.now session.old.graph session.old.patterns }
+    requires whole { session.old.is_broken ≡ false }
+    requires first { watched session.old ≡ first_state limits.now session.old.graph session.old.registry.patterns }
     ensures end { OnOk result (IsAtEnd (S.left updates.new)) }
+    ensures after { OnOk result (KnownOrSome (S.left updates.old)
+        (λ s. watched session.new ≡ after_bytes limits.now (watched session.old) s)) }
+    ensures whole { OnOk result (session.new.is_broken ≡ false) }
     ensures ok { OnOk result (EndsAs (S.left updates.old)
-        (λ s. ending_with limits.now s (Watched session.old.graph session.old.patterns)) (W.taken out.old) (W.taken out.new) Done) }
+        (λ s. ending_with limits.now s (Watched session.old.graph session.old.registry.patterns))
+        (W.taken out.old) (W.taken out.new) Done) }
     ensures front { OnErr result (EndsBefore (S.left updates.old)
-        (λ s. ending_with limits.now s (Watched session.old.graph session.old.patterns)) (W.taken out.old) (W.taken out.new)) }
+        (λ s. ending_with limits.now s (Watched session.old.graph session.old.registry.patterns)) (W.taken out.old) (W.taken out.new)) }
     ensures status { IfErr result (StatusWhere
         (EndsAs (S.left updates.old)
-        (λ s. ending_with limits.now s (Watched session.old.graph session.old.patterns)) (W.taken out.old) (W.taken out.new))
+        (λ s. ending_with limits.now s (Watched session.old.graph session.old.registry.patterns)) (W.taken out.old) (W.taken out.new))
         (Rose (S.faults updates.old) (S.faults updates.new) × EndsAtFault (S.left updates.old) (S.left updates.new)
-        (written_before limits.now (Watched session.old.graph session.old.patterns)) (W.taken out.old) (W.taken out.new))
+        (written_before limits.now (Watched session.old.graph session.old.registry.patterns)) (W.taken out.old) (W.taken out.new))
         (Rose (W.faults out.old) (W.faults out.new))) }
     ensures early { IfErr result IsEarly }
     ensures asked { AskedOfInput limits.now.input_bytes (EndsAtReadFault result) (WentOn result) (λ _. ⊤)
@@ -69,7 +78,7 @@ pub fn follow<S: Source, W: Sink>(
         let Ok(()) = lines.push(&window[..count]) else {
             return Err(Status::Memory);
         };
-        report_waiting(alloc, session, &mut lines, &mut report, out)?;
+        report_waiting(session, &mut lines, &mut report, out, steps)?;
     }
-    report_end(alloc, session, lines.last(), &mut report, out)
+    report_end(session, lines.last(), &mut report, out, steps)
 }

@@ -1,34 +1,43 @@
 //! `watch`: both files are read, and then the updates are dealt with.
-ghost use Rattle.std.specs.Prelude.{◌≡◌, ◌⊎◌, IsOk, Some, OnOk, IfErr, IfSome};
+ghost use Rattle.std.specs.Prelude.{◌≡◌, ◌⊎◌, IsOk, Some, IfOk, OnOk, IfErr, IfSome};
 ghost use Rattle.std.specs.Io.KnownBytes.{IsAtEnd};
 ghost use Rattle.flux_outside.specs.Causes.{Rose};
 ghost use Rattle.flux_outside.specs.Reads.{NoEmptyPut};
+ghost use Rattle.flux_model.specs.Graph.{empty_graph};
 ghost use Rattle.flux_model.specs.Limits.{IsFair};
 ghost use Rattle.flux_model.specs.Verdict.{Watch, Done, accepted};
 ghost use Rattle.watch_cli.specs.AskedByRun.{EndsAtReadFault, EndsAtFile, AskedByRun};
 ghost use Rattle.watch_cli.specs.RunEnds.{RunEndsAs, RunEndsBefore, ReadFails, StatusWhere};
 ghost use Rattle.watch_cli.specs.EarlyEnds.{IsEarly};
+ghost use Rattle.watch_cli.specs.Kept.{IsSessionOf};
 
-use crate::session::Session;
 use crate::status::{InputFile, Status};
 use crate::updates::follow;
-use file_reading::{read_graph, read_patterns};
-use flux_model::Limits;
+use file_reading::{read_patterns, read_store};
+use flux_model::{Ledger, Limits, Steps};
 use flux_outside::{Shelf, Sink, Source};
+use graph_traits::{KeepGraph, ReadGraph};
 use std::alloc::Global;
+use watch_core::Session;
 
-/// Reads both files, and then deals with the updates.
-pub fn watch_updates<F: Shelf, S: Source, W: Sink>(
+/// Reads the graph file into an empty store, and the pattern file, and then deals with the updates. It hands back the session.
+pub fn watch_updates<F: Shelf, G: KeepGraph + ReadGraph<L>, S: Source, W: Sink, L: Ledger>(
     alloc: Global,
     limits: &Limits,
     graph_name: &str,
     patterns_name: &str,
+    empty: G,
     shelf: &mut F,
     updates: &mut S,
     out: &mut W,
-) -> Result<(), Status>
-    requires { IsFair limits.now }
+    steps: &mut Steps<L>,
+) -> Result<Session<G>, Status>
+    requires fair { IsFair limits.now }
+    requires limits { G.limits empty ≡ limits.now }
+    requires empty { G.graph empty ≡ empty_graph }
     ensures end { OnOk result (IsAtEnd (S.left updates.new)) }
+    ensures kept { IfOk result (λ session. IsSessionOf limits.now (F.files shelf.old)
+        (Some (Watch graph_name.now patterns_name.now)) (S.left updates.old) session) }
     ensures ok { OnOk result (RunEndsAs limits.now (F.files shelf.old) (Some (Watch graph_name.now patterns_name.now))
         (S.left updates.old) (W.taken out.old) (W.taken out.new) Done) }
     ensures front { RunEndsBefore limits.now (F.files shelf.old) (Some (Watch graph_name.now patterns_name.now))
@@ -47,7 +56,7 @@ pub fn watch_updates<F: Shelf, S: Source, W: Sink>(
         × IfSome (F.files shelf.old) (λ m. IsOk (accepted limits.now m (Watch graph_name.now patterns_name.now)))) }
     ensures puts { NoEmptyPut (W.puts out.old) (W.puts out.new) }
 {
-    let graph = match read_graph(alloc, limits, shelf, graph_name) {
+    let graph = match read_store(alloc, limits, shelf, graph_name, empty) {
         Ok(graph) => graph,
         Err(stop) => return Err(Status::of(InputFile::Graph, stop)),
     };
@@ -55,6 +64,9 @@ pub fn watch_updates<F: Shelf, S: Source, W: Sink>(
         Ok(patterns) => patterns,
         Err(stop) => return Err(Status::of(InputFile::Patterns, stop)),
     };
-    let mut session = Session::new(graph, patterns);
-    follow(alloc, limits, &mut session, updates, out)
+    let Ok(mut session) = Session::start(alloc, graph, patterns, steps) else {
+        return Err(Status::Memory);
+    };
+    follow(alloc, limits, &mut session, updates, out, steps)?;
+    Ok(session)
 }

@@ -1,6 +1,7 @@
-use Rattle.std.proofs.Common.{◌≡◌, ◌≤◌, ◌-◌, [], vec_len}
+use Rattle.std.proofs.Common.{◌≡◌, ◌≤◌, ◌-◌, [], false, vec_len}
 use Rattle.flux_outside.specs.Reads.{SourceReads, NoEmptyPut}
 use Rattle.flux_outside.proofs.ReadsLemmas.{Asking}
+use Rattle.watch_core.specs.SessionStates.{watched}
 use Rattle.watch_cli.specs.UpdatesProgress.{Followed}
 use Rattle.watch_cli.proofs.updates.follow.Given as goal
 
@@ -9,7 +10,8 @@ invariant-loop-count g l = record {
   within : l.given ≤ l.limits.input_bytes;
   buffer : vec_len l.buffer ≡ 65536;
   empty : l.report.items ≡ [];
-  followed : Followed l.limits.line_bytes l.given (g.S.Source.left l.fn.updates) (g.S.Source.left l.updates) (g.W.Sink.taken l.fn.out) (g.W.Sink.taken l.out) l.fn.session l.session l.lines;
+  followed : Followed l.limits.line_bytes l.given (g.S.Source.left l.fn.updates) (g.S.Source.left l.updates) (g.W.Sink.taken l.fn.out) (g.W.Sink.taken l.out) (watched l.fn.session) (watched l.session) l.lines;
+  whole : l.session.is_broken ≡ false;
   read_later : g.S.Source.faults l.fn.updates ≤ g.S.Source.faults l.updates;
   later : g.W.Sink.faults l.fn.out ≤ g.W.Sink.faults l.out;
   asked : Asking l.limits.input_bytes l.given (SourceReads (g.S.Source.reads l.fn.updates) (g.S.Source.reads l.updates));
