@@ -1,5 +1,5 @@
 -- How a run ends, from how its parts do.
-use Rattle.std.proofs.Common.{◌≡◌, ◌⊎◌, ◌↔◌, ◌≤◌, ℕ, false, List, [], Option, None, Some, Result, Ok, Err, IsOk, IfSome, OnOk, OnErr, inl, inr, refl, sym, ap, ◌∙◌, subst, arith}
+use Rattle.std.proofs.Common.{◌≡◌, ◌⊎◌, ◌↔◌, ◌≤◌, ℕ, false, List, [], Option, None, Some, Result, Ok, Err, IsOk, IfSome, inl, inr, refl, sym, ap, ◌∙◌, subst, arith}
 use Rattle.std.specs.Io.KnownBytes.{Appends}
 use Rattle.std.proofs.KnownBytes.{Appends-nil, Consumes-nil}
 use Rattle.flux_outside.specs.Causes.{Rose}
@@ -27,7 +27,7 @@ use Rattle.watch_core.specs.SessionStates.{SessionState, watched}
 use Rattle.watch_cli.specs.Kept.{after_bytes, StandsAfter, IsSessionOf, HasKept}
 use Rattle.watch_cli.specs.declared.top.Kept.TheVariants as kept
 use Rattle.watch_cli.proofs.ReportLemmas.{AppendsFront-nothing}
-use Rattle.watch_cli.proofs.FollowLemmas.{KnownOrSome-map, KnownOrSome-any, EndsAs-before}
+use Rattle.watch_cli.proofs.FollowLemmas.{KnownOrSome-map, KnownOrSome-any}
 
 -- ---- what the files are accepted as
 

@@ -1,5 +1,5 @@
 -- What a run hands back.
-use Rattle.std.specs.Prelude.{◌≡◌, ℕ, Bool, false, List, Option, Result, Ok, Err, IfSome, MatchOption}
+use Rattle.std.specs.Prelude.{◌≡◌, ℕ, false, List, Option, Result, Ok, Err, IfSome, MatchOption}
 use Rattle.flux_model.specs.Lines.{lines}
 use Rattle.flux_model.specs.Verdict.{Shape, Verdict, Accepted, Watched, Matched, Saved}
 use Rattle.flux_model.specs.declared.limits.Limits.{Limits}

@@ -1,5 +1,5 @@
 use Rattle.flux_model.specs.Verdict.{shape_of}
-use Rattle.watch_cli.specs.CommandWords.{seen_shape, texts}
+use Rattle.watch_cli.specs.CommandWords.{texts}
 use Rattle.watch_cli.proofs.TopLemmas.{early-usage, early-done, early-kept}
 use Rattle.watch_cli.proofs.top.judge.Goals as goal
 
