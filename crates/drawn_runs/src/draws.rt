@@ -42,7 +42,10 @@ impl Draw {
 
     /// The digit of a vertex.
     fn vertex(&mut self) -> u8 {
-        b'0'.wrapping_add(self.below(6) as u8)
+        match b"012345".get(self.below(6) as usize) {
+            Some(digit) => *digit,
+            None => b'0',
+        }
     }
 
     /// One of two labels of edges.
