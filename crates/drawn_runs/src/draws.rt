@@ -1,4 +1,4 @@
-//! Lines of updates over the vertices 0 to 5, drawn by a number.
+//! Lines of updates over the vertices 0 to 4, drawn by a number.
 use std::alloc::{AllocError, Global};
 
 /// Lines that say nothing, that no grammar takes, and that no small graph takes.
@@ -18,7 +18,7 @@ const HOSTILE: [&str; 16] = [
     "-v 7",
     "-e 9 1 r",
     "e 1 9 r",
-    "\tv  5\tA B A ",
+    "\tv  3\tA B A ",
 ];
 
 /// Numbers that look drawn: those of a linear congruential generator, of which the high half is taken.
@@ -42,7 +42,7 @@ impl Draw {
 
     /// The digit of a vertex.
     fn vertex(&mut self) -> u8 {
-        match b"012345".get(self.below(6) as usize) {
+        match b"01234".get(self.below(5) as usize) {
             Some(digit) => *digit,
             None => b'0',
         }

@@ -25,10 +25,10 @@ const CUTS: [u64; 5] = [1, 7, 64, 3, 500];
 const ROOM: usize = 1 << 20;
 
 /// How many lines one draw has.
-const LINES: usize = 150;
+const LINES: usize = 60;
 
 /// The lines that each draw begins with.
-const FIRST_LINES: [&str; 6] = ["v 0 A", "v 1 B", "v 2 A B", "v 3", "v 4 A", "v 5 B"];
+const FIRST_LINES: [&str; 5] = ["v 0 A", "v 1 B", "v 2 A B", "v 3", "v 4 A"];
 
 /// Lines of a draw.
 fn lines_of(alloc: Global, number: u64) -> Result<Vec<Vec<u8>>, AllocError> {
