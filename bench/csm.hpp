@@ -705,13 +705,12 @@ inline int fail(Status s, u64 line = 0, Code c = OK) {
   return int(s);
 }
 
-template <class Engine> int watch_main(int argc, char **argv) {
-  if (argc != 4 || strcmp(argv[1], "watch")) return fail(Usage);
-  Graph g;
+// Reads a graph file: 0, or the exit status.
+inline int load_graph(const char *name, Graph &g) {
   Parsed p;
   u64 line = 0, bad = 0;
   Code code = OK;
-  int fd = open(argv[2], O_RDONLY);
+  int fd = open(name, O_RDONLY);
   if (fd < 0) return fail(errno == ENOENT ? NoFile : ReadFault);
   Status st = each_line(fd, [&](std::string_view t) {
     line++;
@@ -728,12 +727,17 @@ template <class Engine> int watch_main(int argc, char **argv) {
   }, [] {});
   close(fd);
   if (code) return fail(BadGraph, bad, code);
-  if (st) return fail(st);
-  PatternReader pr;
-  fd = open(argv[3], O_RDONLY);
+  return st ? fail(st) : 0;
+}
+
+// Reads a pattern file, and makes its patterns ready over the graph: 0, or the exit status.
+inline int load_patterns(const char *name, Graph &g, PatternReader &pr) {
+  Parsed p;
+  u64 line = 0, bad = 0;
+  Code code = OK;
+  int fd = open(name, O_RDONLY);
   if (fd < 0) return fail(errno == ENOENT ? NoFile : ReadFault);
-  line = 0;
-  st = each_line(fd, [&](std::string_view t) {
+  Status st = each_line(fd, [&](std::string_view t) {
     line++;
     code = parse(PatternFile, t, p);
     if (!code && p.form != Blank) {
@@ -748,11 +752,34 @@ template <class Engine> int watch_main(int argc, char **argv) {
   if ((code = pr.close())) return fail(BadPatterns, pr.ps.back().line, code);
   for (auto &q : pr.ps) q.prepare();
   g.start_patterns(pr.ps);
+  return 0;
+}
+
+// The patterns of one vertex without an edge.
+struct Singles {
+  std::vector<u32> numbers;
+  void build(const std::vector<PatternT> &ps) {
+    for (u32 k = 0; k < ps.size(); k++)
+      if (ps[k].edges.empty()) numbers.push_back(k);
+  }
+  // A vertex came or went.
+  void vertex(Graph &g, const std::vector<PatternT> &ps, std::vector<u32> &found, Out &out, u64 line, bool plus, u32 v) const {
+    for (u32 k : numbers)
+      if (g.fits(v, ps[k].cls[0])) { found.push_back(g.id[v]); report(out, line, plus, ps[k], found); }
+  }
+};
+
+template <class Engine> int watch_main(int argc, char **argv) {
+  if (argc != 4 || strcmp(argv[1], "watch")) return fail(Usage);
+  Graph g;
+  if (int bad = load_graph(argv[2], g)) return bad;
+  PatternReader pr;
+  if (int bad = load_patterns(argv[3], g, pr)) return bad;
   Engine eng(g, pr.ps);
+  Parsed p;
   Out out;
-  u64 accepted = 0, refused = 0;
-  line = 0;
-  st = each_line(0, [&](std::string_view t) {
+  u64 line = 0, accepted = 0, refused = 0;
+  Status st = each_line(0, [&](std::string_view t) {
     line++;
     Code c = parse(UpdateFile, t, p);
     if (!c) switch (p.form) {

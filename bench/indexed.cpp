@@ -264,7 +264,8 @@ struct Engine {
   std::vector<PatternT> &ps;
   Routes routes;
   std::vector<Dcg> dcg;
-  std::vector<u32> found, single;
+  std::vector<u32> found;
+  Singles singles;
   Engine(Graph &g_, std::vector<PatternT> &p) : g(g_), ps(p) {
     routes.build(ps, g.names.name.size());
     std::vector<std::vector<std::pair<u32, u32>>> byl(routes.by.size());
@@ -275,14 +276,12 @@ struct Engine {
         if (routes.of(l)) byl[l].push_back({s, t});
       }
     dcg.resize(ps.size());
-    for (u32 k = 0; k < ps.size(); k++) {
-      if (ps[k].edges.empty()) single.push_back(k);
-      else dcg[k].start(g, ps[k], byl);
-    }
+    singles.build(ps);
+    for (u32 k = 0; k < ps.size(); k++)
+      if (!ps[k].edges.empty()) dcg[k].start(g, ps[k], byl);
   }
   void vertex(Out &out, u64 line, bool plus, u32 v) {
-    for (u32 k : single)
-      if (g.fits(v, ps[k].cls[0])) { found.push_back(g.id[v]); report(out, line, plus, ps[k], found); }
+    singles.vertex(g, ps, found, out, line, plus, v);
   }
   void edge(Out &out, u64 line, bool plus, u32 s, u32 l, u32 t) {
     auto *rs = routes.of(l);

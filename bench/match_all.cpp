@@ -112,27 +112,7 @@ int main(int argc, char **argv) {
   bool pats = how == "match" || how == "plain";
   if (!(pats ? argc == 4 : (how == "save" || how == "load") && argc == 3)) return fail(Usage);
   Graph g;
-  Parsed p;
-  u64 line = 0, bad = 0;
-  Code code = OK;
-  int fd = open(argv[2], O_RDONLY);
-  if (fd < 0) return fail(errno == ENOENT ? NoFile : ReadFault);
-  Status st = each_line(fd, [&](std::string_view t) {
-    line++;
-    code = parse(GraphFile, t, p);
-    if (!code && p.form == AddV) code = g.add_vertex(p);
-    else if (!code && p.form == AddE) {
-      u32 s, l, d;
-      code = g.check_edge(p, s, l, d);
-      if (code == OK) g.insert(s, l, d);
-      else if (code == Exists) code = OK;
-    }
-    if (code) bad = line;
-    return code == OK;
-  }, [] {});
-  close(fd);
-  if (code) return fail(BadGraph, bad, code);
-  if (st) return fail(st);
+  if (int bad = load_graph(argv[2], g)) return bad;
   stage("load");
   if (how == "load") return 0;
   Out out;
@@ -143,24 +123,7 @@ int main(int argc, char **argv) {
     return out.failed ? fail(WriteFault) : 0;
   }
   PatternReader pr;
-  fd = open(argv[3], O_RDONLY);
-  if (fd < 0) return fail(errno == ENOENT ? NoFile : ReadFault);
-  line = 0;
-  st = each_line(fd, [&](std::string_view t) {
-    line++;
-    code = parse(PatternFile, t, p);
-    if (!code && p.form != Blank) {
-      code = pr.take(line, p, g.names);
-      bad = (code == Empty || code == Apart) ? pr.ps.back().line : line;
-    } else bad = line;
-    return code == OK;
-  }, [] {});
-  close(fd);
-  if (code) return fail(BadPatterns, bad, code);
-  if (st) return fail(st);
-  if ((code = pr.close())) return fail(BadPatterns, pr.ps.back().line, code);
-  for (auto &q : pr.ps) q.prepare();
-  g.start_patterns(pr.ps);
+  if (int bad = load_patterns(argv[3], g, pr)) return bad;
   std::vector<std::vector<std::pair<u32, u32>>> byl(g.names.name.size());
   for (auto &e : g.emap.s)
     if (e.key != NOKEY) {
