@@ -11,7 +11,6 @@ use Rattle.flux_model.specs.declared.graph.Triple.{Triple}
 use Rattle.flux_model.specs.declared.limits.Limits.{Limits}
 use Rattle.label_graph.specs.declared.link.Link.{Link}
 use Rattle.label_graph.specs.declared.link.Node.{Node}
-use Rattle.label_graph.specs.declared.link.Places.{Places}
 use Rattle.label_graph.specs.declared.names.Name.{Name}
 use Rattle.label_graph.specs.Names.{slot, text_at, lowered, uses_of, IsTable, IsUnknown}
 use Rattle.label_graph.specs.Places.{vertex_of, link_eq}
@@ -22,7 +21,7 @@ use Rattle.label_graph.proofs.FullLemmas.{add_edge_done}
 abbrev okay : Graph → Result Graph Code
 okay g = Ok g
 
-module _ (names : List (Option Name)) (es : List (ℕ × Node)) (places : List (Link × Places)) (t : Triple) (label : ℕ)
+module _ {R : Type 0} {W : Type 0} (names : List (Option Name)) (es : List (ℕ × Node R)) (places : List (Link × W)) (t : Triple) (label : ℕ)
     (h : IsNamed names (map vertex_of es) (keys_of places)) (tab : IsTable names)
     (src : is_some (lookup (nat_eq t.src) es) ≡ true) (dst : is_some (lookup (nat_eq t.dst) es) ≡ true) where
   -- the link of the triple, and whether it stands

@@ -15,7 +15,6 @@ use Rattle.flux_model.specs.declared.code.Code.TheVariants as code
 use Rattle.flux_model.specs.declared.graph.Vertex.{Vertex}
 use Rattle.flux_model.specs.declared.graph.Triple.{Triple}
 use Rattle.label_graph.specs.declared.link.Link.{Link}
-use Rattle.label_graph.specs.declared.link.Places.{Places}
 use Rattle.label_graph.specs.declared.names.Name.{Name}
 use Rattle.label_graph.specs.Names.{slot, text_at, IsTable, IsUnknown}
 use Rattle.label_graph.specs.Places.{link_eq}
@@ -53,7 +52,7 @@ add_edge_done limits g t e f n = rw (e, f, n) refl
 -- ---- by the number of the label
 
 -- whether a triple stands, by the number of its label if it has one
-pub known_triple : (names : List (Option Name)) (vertices : List Vertex) (places : List (Link × Places)) (t : Triple) (known : Option ℕ) →
+pub known_triple : {W : Type 0} (names : List (Option Name)) (vertices : List Vertex) (places : List (Link × W)) (t : Triple) (known : Option ℕ) →
     IsNamed names vertices (keys_of places) → IsTable names →
     MatchOption known (IsUnknown names t.label) (λ n. text_at names n ≡ Some t.label) → has_triple (kept_graph names vertices (keys_of places)) t ≡ known_stands places known t.src t.dst
 known_triple names vertices places t None h tab found = has_triple_unknown names vertices (keys_of places) h t found
@@ -67,7 +66,7 @@ none_from None e = refl
 none_from (Some x) e = cc
 
 -- a new triple has no place
-pub absent_link : (names : List (Option Name)) (vertices : List Vertex) (places : List (Link × Places)) (k : Link) (text : List ℕ) →
+pub absent_link : {W : Type 0} (names : List (Option Name)) (vertices : List Vertex) (places : List (Link × W)) (k : Link) (text : List ℕ) →
     IsNamed names vertices (keys_of places) → IsTable names →
     MatchOption (slot names k.label) (IsUnknown names text) (λ x. x.text ≡ text) → has_triple (kept_graph names vertices (keys_of places)) (record { src = k.src; label = text; dst = k.dst }) ≡ false →
     lookup (link_eq k) places ≡ None

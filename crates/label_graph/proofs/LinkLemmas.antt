@@ -8,7 +8,7 @@ use Rattle.label_graph.specs.declared.link.Link.{Link}
 use Rattle.label_graph.specs.declared.link.RowEntry.{RowEntry}
 use Rattle.label_graph.specs.declared.link.Places.{Places}
 use Rattle.label_graph.specs.declared.link.Node.{Node}
-use Rattle.label_graph.specs.Places.{AreInverse, ArePlaced, link_eq, out_place, in_place, link_at, outs, ins, out_link, in_link}
+use Rattle.label_graph.specs.Places.{Row, AreInverse, ArePlaced, link_eq, out_place, in_place, link_at, outs, ins, out_link, in_link}
 use Rattle.label_graph.proofs.PlaceLemmas.{link_same}
 
 -- functions that answer as these do are inverse too
@@ -25,19 +25,19 @@ pub same_rows : (link : ℕ → RowEntry → Link) (rows rows' : ℕ → List Ro
 same_rows link rows rows' h a = ap (λ (l : List RowEntry). option_map (link a.0) (slice_get l a.1)) (h a.0)
 
 -- rows and places that answer as these do belong together too
-pub same_placed : (nodes nodes' : List (ℕ × Node)) (places places' : List (Link × Places)) → ((q : ℕ) → outs nodes' q ≡ outs nodes q) →
+pub same_placed : (nodes nodes' : List (ℕ × Node Row)) (places places' : List (Link × Places ℕ)) → ((q : ℕ) → outs nodes' q ≡ outs nodes q) →
     ((q : ℕ) → ins nodes' q ≡ ins nodes q) →
     ((q : Link) → lookup (link_eq q) places' ≡ lookup (link_eq q) places) → ArePlaced nodes places → ArePlaced nodes' places'
 same_placed nodes nodes' places places' os is ps h = record {
   outs = same_inverse (link_at out_link (outs nodes)) (link_at out_link (outs nodes')) (out_place places) (out_place places')
-      (same_rows out_link (outs nodes) (outs nodes') os) (λ q. ap (option_map (λ (p : Places). (q.src, p.out_at))) (ps q)) h.outs;
+      (same_rows out_link (outs nodes) (outs nodes') os) (λ q. ap (option_map (λ (p : Places ℕ). (q.src, p.out_at))) (ps q)) h.outs;
   ins = same_inverse (link_at in_link (ins nodes)) (link_at in_link (ins nodes')) (in_place places) (in_place places')
-      (same_rows in_link (ins nodes) (ins nodes') is) (λ q. ap (option_map (λ (p : Places). (q.dst, p.in_at))) (ps q)) h.ins;
+      (same_rows in_link (ins nodes) (ins nodes') is) (λ q. ap (option_map (λ (p : Places ℕ). (q.dst, p.in_at))) (ps q)) h.ins;
 }
 
-module _ {X : Type 0} (part : Link → Places → X) (m n : List (Link × Places)) (k : Link) where
+module _ {W : Type 0} {X : Type 0} (part : Link → W → X) (m n : List (Link × W)) (k : Link) where
   -- a new key
-  pub set_part : (new : Places) → ((q : Link) → lookup (link_eq q) n ≡ cond (link_eq k q) (Some new) (lookup (link_eq q) m)) →
+  pub set_part : (new : W) → ((q : Link) → lookup (link_eq q) n ≡ cond (link_eq k q) (Some new) (lookup (link_eq q) m)) →
       (q : Link) → option_map (part q) (lookup (link_eq q) n) ≡ cond (link_eq k q) (Some (part k new)) (option_map (part q) (lookup (link_eq q) m))
   set_part new set q = by (link_eq k q) refl
     where
@@ -47,7 +47,7 @@ module _ {X : Type 0} (part : Link → Places → X) (m n : List (Link × Places
       by false e = rw (set q, e) refl
 
   -- a key that is gone, put back
-  pub restored_part : (was : Places) → lookup (link_eq k) m ≡ Some was →
+  pub restored_part : (was : W) → lookup (link_eq k) m ≡ Some was →
       ((q : Link) → lookup (link_eq q) n ≡ cond (link_eq k q) None (lookup (link_eq q) m)) →
       (q : Link) → cond (link_eq k q) (Some (part k was)) (option_map (part q) (lookup (link_eq q) n)) ≡ option_map (part q) (lookup (link_eq q) m)
   restored_part was at set q = by (link_eq k q) refl
@@ -58,7 +58,7 @@ module _ {X : Type 0} (part : Link → Places → X) (m n : List (Link × Places
       by false e = rw (e, set q, e) refl
 
 -- a link that is taken away leaves the other links
-pub keys_removed : (k : Link) (es : List (Link × Places)) (v : Places) → lookup (link_eq k) es ≡ Some v →
+pub keys_removed : {W : Type 0} (k : Link) (es : List (Link × W)) (v : W) → lookup (link_eq k) es ≡ Some v →
     IsPermutation (keys_of es) (k ∷ keys_of (remove_entry (link_eq k) es))
 keys_removed k [] v h = absurd (none-some v h)
 keys_removed k (e ∷ es) v h = by (link_eq k e.0) refl (keys_removed k es v)

@@ -7,7 +7,6 @@ use Rattle.std.proofs.lemmas.Bool.{and_parts, eqb-true, eq-eqb, cases_eq, cases_
 use Rattle.std.proofs.lemmas.Option.{none-some, same_Some, slice_get_within, slice_get_past, some_pair_parts}
 use Rattle.label_graph.specs.declared.link.Link.{Link}
 use Rattle.label_graph.specs.declared.link.RowEntry.{RowEntry}
-use Rattle.label_graph.specs.declared.link.Places.{Places}
 use Rattle.label_graph.specs.Places.{AreInverse, link_eq, link_at, IsPulled}
 use Rattle.label_graph.proofs.InverseLemmas.{CanTell, added, removed, moved}
 
@@ -58,7 +57,7 @@ past_from_none (x ∷ xs) zero e = absurd (none-some x (sym e))
 past_from_none (x ∷ xs) (suc i) e = let r = past_from_none xs i e in omega arith
 
 -- where the value at one key changes, and the part that is read of it does not
-pub same_part : {X : Type 0} (part : Link → Places → X) (m n : List (Link × Places)) (k : Link) (old new : Places) →
+pub same_part : {W : Type 0} {X : Type 0} (part : Link → W → X) (m n : List (Link × W)) (k : Link) (old new : W) →
     lookup (link_eq k) m ≡ Some old → part k new ≡ part k old →
     ((q : Link) → lookup (link_eq q) n ≡ cond (link_eq k q) (Some new) (lookup (link_eq q) m)) →
     (q : Link) → option_map (part q) (lookup (link_eq q) n) ≡ option_map (part q) (lookup (link_eq q) m)
@@ -95,7 +94,7 @@ pub slice_get_pushed : {X : Type 0} (xs : List X) (y : X) → slice_get (xs ++ y
 slice_get_pushed [] y = refl
 slice_get_pushed (x ∷ xs) y = slice_get_pushed xs y
 
-no_pair : (a b : ℕ × ℕ) → (a ≡ b → ⊥) → a.0 ≡ b.0 → a.1 ≡ b.1 → ⊥
+pub no_pair : (a b : ℕ × ℕ) → (a ≡ b → ⊥) → a.0 ≡ b.0 → a.1 ≡ b.1 → ⊥
 no_pair a b n p q = n (pair_same a.0 a.1 b.0 b.1 p q)
 
 -- ---- one entry more

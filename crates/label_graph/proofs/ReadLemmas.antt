@@ -66,32 +66,32 @@ vertex_is : (a x : ℕ) (b y : List (List ℕ)) → a ≡ x → b ≡ y →
     ◌≡◌ {A = Vertex} (record { id = a; labels = b }) (record { id = x; labels = y })
 vertex_is a x b y p q = cc
 
-node_in : (es : List (ℕ × Node)) (v : ℕ) (p : Node) → lookup (nat_eq v) es ≡ Some p →
+node_in : {R : Type 0} (es : List (ℕ × Node R)) (v : ℕ) (p : Node R) → lookup (nat_eq v) es ≡ Some p →
     In (map vertex_of es) (record { id = v; labels = p.labels })
-node_in [] v p e = absurd (none-some p e)
-node_in (x ∷ xs) v p e = by (nat_eq v x.0) refl e (node_in xs v p)
+node_in {R} [] v p e = absurd (none-some p e)
+node_in {R} (x ∷ xs) v p e = by (nat_eq v x.0) refl e (node_in xs v p)
   where
     by : (b : Bool) → nat_eq v x.0 ≡ b → lookup (nat_eq v) (x ∷ xs) ≡ Some p →
         (lookup (nat_eq v) xs ≡ Some p → In (map vertex_of xs) (record { id = v; labels = p.labels })) →
         In (map vertex_of (x ∷ xs)) (record { id = v; labels = p.labels })
-    by true q l ih = let s = same_Some x.1 p (rw q at l) in inl (vertex_is v x.0 p.labels x.1.labels (eqb-true v x.0 q) (ap (λ (n : Node). n.labels) (sym s)))
+    by true q l ih = let s = same_Some x.1 p (rw q at l) in inl (vertex_is v x.0 p.labels x.1.labels (eqb-true v x.0 q) (ap (λ (n : Node R). n.labels) (sym s)))
     by false q l ih = inr (ih (rw q at l))
 
-module _ (names : List (Option Name)) (nodes : List (ℕ × Node)) (links : List Link) (n : IsNamed names (map vertex_of nodes) links) where
-  stands : (v : ℕ) (p : Node) → lookup (nat_eq v) nodes ≡ Some p →
+module _ {R : Type 0} (names : List (Option Name)) (nodes : List (ℕ × Node R)) (links : List Link) (n : IsNamed names (map vertex_of nodes) links) where
+  stands : (v : ℕ) (p : Node R) → lookup (nat_eq v) nodes ≡ Some p →
       In (sorted vertex_cmp (map vertex_of nodes)) (record { id = v; labels = p.labels })
   stands v p e = in_sorted vertex_cmp vertex_total (map vertex_of nodes) (λ a b i j q. n.one_each a b i j (exact_unsigned a.id b.id q)) (record { id = v; labels = p.labels }) (node_in nodes v p e)
 
-  one : (v : ℕ) (p : Node) → lookup (nat_eq v) nodes ≡ Some p → (w : Vertex) → In (sorted vertex_cmp (map vertex_of nodes)) w →
+  one : (v : ℕ) (p : Node R) → lookup (nat_eq v) nodes ≡ Some p → (w : Vertex) → In (sorted vertex_cmp (map vertex_of nodes)) w →
       (w.id == v) ≡ true → w ≡ record { id = v; labels = p.labels }
   one v p e w i q = n.one_each w (record { id = v; labels = p.labels }) (sorted_in vertex_cmp vertex_total (map vertex_of nodes) w i) (node_in nodes v p e) (eqb-true w.id v q)
 
   -- the labels of a node are those of the vertex
-  pub labels_found : (v : ℕ) (p : Node) → lookup (nat_eq v) nodes ≡ Some p → vertex_of_id (kept_graph names (map vertex_of nodes) links) v ≡ Some (record { id = v; labels = p.labels })
+  pub labels_found : (v : ℕ) (p : Node R) → lookup (nat_eq v) nodes ≡ Some p → vertex_of_id (kept_graph names (map vertex_of nodes) links) v ≡ Some (record { id = v; labels = p.labels })
   labels_found v p e = find_one (λ (w : Vertex). w.id == v) (sorted vertex_cmp (map vertex_of nodes)) (record { id = v; labels = p.labels }) (stands v p e) (eq-eqb v v refl) (one v p e)
 
   -- a vertex has each of the labels where its node has
-  pub fits_found : (v : ℕ) (p : Node) (labels : List (List ℕ)) → lookup (nat_eq v) nodes ≡ Some p →
+  pub fits_found : (v : ℕ) (p : Node R) (labels : List (List ℕ)) → lookup (nat_eq v) nodes ≡ Some p →
       fits_labels (kept_graph names (map vertex_of nodes) links) labels v ≡ is_within labels p.labels
   fits_found v p labels e = any_one (λ (w : Vertex). w.id == v) (λ (w : Vertex). is_within labels w.labels) (sorted vertex_cmp (map vertex_of nodes)) (record { id = v; labels = p.labels }) (stands v p e) (eq-eqb v v refl) (one v p e)
 
@@ -113,16 +113,16 @@ keys_once (k ∷ ks) d = (apart ks d.0, keys_once ks d.1)
     apart (l ∷ ls) a (inl e) = let q : nat_eq k l ≡ true = eq-eqb k l e in let r = a.0 in cc
     apart (l ∷ ls) a (inr i) = apart ls a.1 i
 
-key_vertex : (es : List (ℕ × Node)) (k : ℕ) → In (keys_of es) k → (v : Vertex) × In (map vertex_of es) v × (k ≡ v.id)
-key_vertex es k i = let e = mapped_in (λ (e : ℕ × Node). e.0) es k i in (vertex_of e.0, in_mapped vertex_of es e.0 e.1, e.2)
+key_vertex : {R : Type 0} (es : List (ℕ × Node R)) (k : ℕ) → In (keys_of es) k → (v : Vertex) × In (map vertex_of es) v × (k ≡ v.id)
+key_vertex {R} es k i = let e = mapped_in (λ (e : ℕ × Node R). e.0) es k i in (vertex_of e.0, in_mapped vertex_of es e.0 e.1, e.2)
 
-vertex_key : (es : List (ℕ × Node)) (v : Vertex) → In (map vertex_of es) v → In (keys_of es) v.id
-vertex_key es v i =
+vertex_key : {R : Type 0} (es : List (ℕ × Node R)) (v : Vertex) → In (map vertex_of es) v → In (keys_of es) v.id
+vertex_key {R} es v i =
     let e = mapped_in vertex_of es v i in
     let P : Vertex → Type 0 = λ w. In (keys_of es) w.id in
-    subst P (sym e.2) (in_mapped (λ (e : ℕ × Node). e.0) es e.0 e.1)
+    subst P (sym e.2) (in_mapped (λ (e : ℕ × Node R). e.0) es e.0 e.1)
 
-module _ (names : List (Option Name)) (nodes : List (ℕ × Node)) (links : List Link) (n : IsNamed names (map vertex_of nodes) links)
+module _ {R : Type 0} (names : List (Option Name)) (nodes : List (ℕ × Node R)) (links : List Link) (n : IsNamed names (map vertex_of nodes) links)
     (distinct : IsDistinct nat_eq (keys_of nodes)) where
   -- the ids of the nodes are those of the vertices
   pub ids_listed : IsPermutation (keys_of nodes) (ids (kept_graph names (map vertex_of nodes) links))
@@ -163,7 +163,7 @@ length_sorted R [] = omega arith
 length_sorted R (x ∷ xs) = let p = length_put R x (sorted R xs) in let l = length_sorted R xs in omega arith
 
 -- a place among the vertices is one among the nodes
-pub within_nodes : (names : List (Option Name)) (nodes : List (ℕ × Node)) (links : List Link) (i : ℕ) →
+pub within_nodes : {R : Type 0} (names : List (Option Name)) (nodes : List (ℕ × Node R)) (links : List Link) (i : ℕ) →
     i < length (kept_graph names (map vertex_of nodes) links).vertices → i < length nodes
 within_nodes names nodes links i lt =
     let l = length_sorted vertex_cmp (map vertex_of nodes) in

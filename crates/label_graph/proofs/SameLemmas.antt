@@ -11,7 +11,7 @@ module _ (names names' : List (Option Name)) (slots : (q : ℕ) → slot names' 
   same_triple : (k : Link) → triple_of names' k ≡ triple_of names k
   same_triple k = ap (λ (o : Option Name). record { src = k.src; label = unwrap_or (option_map (λ x. x.text) o) []; dst = k.dst }) (slots k.label)
 
-  same_entries : (link : RowEntry → Link) (row : List RowEntry) →
+  pub same_entries : (link : RowEntry → Link) (row : List RowEntry) →
       map (λ t. triple_of names' (link t)) row ≡ map (λ t. triple_of names (link t)) row
   same_entries link [] = refl
   same_entries link (t ∷ row) = rw (same_triple (link t), same_entries link row) refl

@@ -30,7 +30,7 @@ use Rattle.label_graph.specs.declared.link.RowEntry.{RowEntry}
 use Rattle.label_graph.specs.declared.link.Places.{Places}
 use Rattle.label_graph.specs.declared.names.Name.{Name}
 use Rattle.label_graph.specs.Names.{slot, text_at, IsTable, IsUnknown, lowered, uses_of}
-use Rattle.label_graph.specs.Places.{ArePlaced, link_eq, vertex_of, outs, out_link}
+use Rattle.label_graph.specs.Places.{Row, ArePlaced, link_eq, vertex_of, outs, out_link}
 use Rattle.flux_model.specs.Members.{In}
 use Rattle.flux_model.proofs.MemberLemmas.{filter_in, in_filter, mapped_in, in_mapped, in_permutation, in_permutation_back, none_in, in_any}
 use Rattle.flux_laws.proofs.AscendingLemmas.{filter-ascending}
@@ -82,13 +82,13 @@ same_id : (a b : ℕ) → (a == b) ≡ (b == a)
 same_id a b = nat_eq_equiv.symm a b
 
 -- the vertices of the nodes have the ids of the nodes
-pub any_vertex : (es : List (ℕ × Node)) (id : ℕ) → list_any (λ (v : Vertex). v.id == id) (map vertex_of es)
+pub any_vertex : {R : Type 0} (es : List (ℕ × Node R)) (id : ℕ) → list_any (λ (v : Vertex). v.id == id) (map vertex_of es)
     ≡ list_any (nat_eq id) (keys_of es)
 any_vertex [] id = refl
 any_vertex (e ∷ es) id = rw (same_id e.0 id, any_vertex es id) refl
 
 -- an id is a vertex where it has a node
-pub has_vertex_of : (names : List (Option Name)) (es : List (ℕ × Node)) (links : List Link) (id : ℕ) →
+pub has_vertex_of : {R : Type 0} (names : List (Option Name)) (es : List (ℕ × Node R)) (links : List Link) (id : ℕ) →
     has_vertex (kept_graph names (map vertex_of es) links) id ≡ is_some (lookup (nat_eq id) es)
 has_vertex_of names es links id =
     any_sorted vertex_cmp vertex_total (λ (v : Vertex). v.id == id) (λ x y e. ap (λ (n : ℕ). n == id) (exact_unsigned x.id y.id e)) (map vertex_of es)
@@ -363,7 +363,7 @@ and_right_false : (b c : Bool) → c ≡ false → b && c ≡ false
 and_right_false true c e = e
 and_right_false false c e = refl
 
-module _ (names : List (Option Name)) (es : List (ℕ × Node)) (links : List Link) (t : Triple) where
+module _ {R : Type 0} (names : List (Option Name)) (es : List (ℕ × Node R)) (links : List Link) (t : Triple) where
   -- a source without a node is no vertex
   pub no_src : is_some (lookup (nat_eq t.src) es) ≡ false → has_both_ends (kept_graph names (map vertex_of es) links) t ≡ false
   no_src e = and_left_false _ _ (has_vertex_of names es links t.src ∙ e)
@@ -544,13 +544,13 @@ module _ (names names' : List (Option Name)) (vertices vertices' : List Vertex) 
 -- ---- an entry of a row has a name
 
 -- the label of an entry of an out row is a name
-pub entry_named : (names : List (Option Name)) (nodes : List (ℕ × Node)) (places : List (Link × Places)) → ArePlaced nodes places →
+pub entry_named : (names : List (Option Name)) (nodes : List (ℕ × Node Row)) (places : List (Link × Places ℕ)) → ArePlaced nodes places →
     IsNamed names (map vertex_of nodes) (keys_of places) →
     (v i : ℕ) (t : RowEntry) → slice_get (outs nodes v) i ≡ Some t → IsSome (slot names t.label)
 entry_named names nodes places h n v i t e =
     let k : Link = record { src = v; label = t.label; dst = t.other } in
     let place = h.outs.there (v, i) k (ap (option_map (out_link v)) e) in
-    let some = IsSome-mapped (λ (p : Places). (k.src, p.out_at)) (lookup (link_eq k) places) (v, i) place in
+    let some = IsSome-mapped (λ (p : Places ℕ). (k.src, p.out_at)) (lookup (link_eq k) places) (v, i) place in
     let l = in_any (link_eq k) (keys_of places) (sym (is_some-lookup (link_eq k) places) ∙ some) in
     let x = known_label names (map vertex_of nodes) (keys_of places) n l.0 l.1 in
     let P : Link → Type 0 = λ z. IsSome (slot names z.label) in

@@ -55,7 +55,7 @@ ids_sorted : (vs : List Vertex) → map (λ (w : Vertex). w.id) (sorted vertex_c
 ids_sorted [] = refl
 ids_sorted (v ∷ vs) = ids_put v (sorted vertex_cmp vs) ∙ ap (put nat_cmp v.id) (ids_sorted vs)
 
-ids_of_nodes : (es : List (ℕ × Node)) → map (λ (w : Vertex). w.id) (map vertex_of es) ≡ keys_of es
+ids_of_nodes : {R : Type 0} (es : List (ℕ × Node R)) → map (λ (w : Vertex). w.id) (map vertex_of es) ≡ keys_of es
 ids_of_nodes [] = refl
 ids_of_nodes (e ∷ es) = ap (λ (l : List ℕ). e.0 ∷ l) (ids_of_nodes es)
 
@@ -70,7 +70,7 @@ apart_ids (k ∷ ks) d = ((λ i. head ks d.0 i), apart_ids ks d.1)
     head (m ∷ ms) a (inr j) = head ms a.1 j
 
 -- there are as many vertices as nodes
-pub vertices_counted : (es : List (ℕ × Node)) → IsDistinct nat_eq (keys_of es) → length (sorted vertex_cmp (map vertex_of es)) ≡ length es
+pub vertices_counted : {R : Type 0} (es : List (ℕ × Node R)) → IsDistinct nat_eq (keys_of es) → length (sorted vertex_cmp (map vertex_of es)) ≡ length es
 vertices_counted es d =
     sym (length-map (sorted vertex_cmp (map vertex_of es)) (λ (w : Vertex). w.id))
     ∙ (ap (λ (l : List ℕ). length l) (ids_sorted (map vertex_of es) ∙ ap (sorted nat_cmp) (ids_of_nodes es))
@@ -140,7 +140,7 @@ module _ (names : List (Option Name)) (vertices : List Vertex) (links : List Lin
       e ∙ (l ∙ omega (arith, a, f, c))
 
 -- the test of the store is that of the graph
-pub room_is : (limits : Limits) (names : List (Option Name)) (es : List (ℕ × Node)) (links : List Link) (set : List (List ℕ))
+pub room_is : {R : Type 0} (limits : Limits) (names : List (Option Name)) (es : List (ℕ × Node R)) (links : List Link) (set : List (List ℕ))
     (count name more : ℕ) → IsNamed names (map vertex_of es) links → IsTable names →
     is_ascending text_cmp set ≡ true → IsDistinct nat_eq (keys_of es) → count ≡ length es → name ≡ count_by is_some names → more ≡ count_by (λ (t : List ℕ). not (is_known names t)) set →
     nat_le limits.vertices (length (sorted vertex_cmp (map vertex_of es))) || nat_lt limits.labels (name_count (kept_graph names (map vertex_of es) links) set) ≡ nat_le limits.vertices count || nat_lt limits.labels (name + more)

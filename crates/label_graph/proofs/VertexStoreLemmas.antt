@@ -3,7 +3,7 @@ use Rattle.std.proofs.Common.{◌≡◌, ℕ, ◌<◌, ◌^◌, true, false, ◌
 use Rattle.std.proofs.Common.{Result, refl, sym, ap, ◌∙◌, subst}
 use Rattle.std.specs.Prelude.{◌==◌, IsPermutation, is_some, nat_eq, nat_le, nat_lt}
 use Rattle.std.specs.List.{list_any}
-use Rattle.std.specs.Map.{lookup, keys_of}
+use Rattle.std.specs.Map.{lookup}
 use Rattle.std.proofs.lemmas.List.Sorted.{IsPermutation-map, IsPermutation-refl}
 use Rattle.std.proofs.lemmas.Map.Made.{is_some-lookup}
 use Rattle.indexmap.specs.IndexMap.{swap_remove_entry}
@@ -21,14 +21,14 @@ use Rattle.label_graph.specs.declared.link.Places.{Places}
 use Rattle.label_graph.specs.declared.names.Name.{Name}
 use Rattle.graph_traits.specs.WithinLimits.{IsWithinLimits}
 use Rattle.label_graph.specs.Names.{slot}
-use Rattle.label_graph.specs.Places.{ArePlaced, vertex_of, outs, ins}
+use Rattle.label_graph.specs.Places.{Row, ArePlaced, vertex_of, outs, ins}
 use Rattle.label_graph.specs.SetNames.{lowered_in, IsRaised}
 use Rattle.label_graph.specs.Store.{kept_graph, IsNamed}
 use Rattle.label_graph.proofs.FullLemmas.{none_from}
 use Rattle.label_graph.proofs.HeldLemmas.{held_after}
 use Rattle.label_graph.proofs.StoreLemmas.{has_vertex_of, any_vertex, same_named, same_graph_of}
 use Rattle.label_graph.proofs.VertexLemmas.{named_with, graph_with, removed_vertex_named, graph_without}
-use Rattle.label_graph.proofs.VertexNodeLemmas.{taken, none_left, placed_left, pushed_first, placed_more, empty_rows, incident_is}
+use Rattle.label_graph.proofs.VertexNodeLemmas.{taken, none_left, placed_left, pushed_first, placed_more, empty_rows}
 
 -- ---- what the definitions answer
 
@@ -63,81 +63,82 @@ drop_vertex_done g id e f = rw (e, f) refl
 
 -- ---- a vertex less
 
-module _ (names names' : List (Option Name)) (es fs : List (ℕ × Node)) (places : List (Link × Places)) (id : ℕ) (node : Node)
-    (placed : ArePlaced es places) (named : IsNamed names (map vertex_of es) (keys_of places)) (found : lookup (nat_eq id) es ≡ Some node)
-    (idle : nat_lt 0 (length (outs es id)) || nat_lt 0 (length (ins es id)) ≡ false) (entries : fs ≡ swap_remove_entry (nat_eq id) es)
-    (set : (q : ℕ) → lookup (nat_eq q) fs ≡ cond (nat_eq id q) None (lookup (nat_eq q) es)) (low : (q : ℕ) → slot names' q ≡ lowered_in node.labels (slot names q)) where
-  without : IsPermutation (map vertex_of es) (vertex_of (id, node) ∷ map vertex_of fs)
-  without =
-      let P : List (ℕ × Node) → Type 0 = λ l. IsPermutation (map vertex_of es) (vertex_of (id, node) ∷ map vertex_of l) in
-      subst P (sym entries) (IsPermutation-map vertex_of es ((id, node) ∷ swap_remove_entry (nat_eq id) es) (taken id es node found))
-
+module _ (es fs : List (ℕ × Node Row)) (places : List (Link × Places ℕ)) (id : ℕ) (placed : ArePlaced es places) (idle : nat_lt 0 (length (outs es id)) || nat_lt 0 (length (ins es id)) ≡ false)
+    (set : (q : ℕ) → lookup (nat_eq q) fs ≡ cond (nat_eq id q) None (lookup (nat_eq q) es)) where
   -- rows and places belong together after it
   pub dropped_placed : ArePlaced fs places
   dropped_placed = let r = empty_rows (outs es id) (ins es id) idle in placed_left id es fs set places r.0 r.1 placed
 
+module _ {R : Type 0} (names names' : List (Option Name)) (es fs : List (ℕ × Node R)) (links : List Link) (id : ℕ) (node : Node R)
+    (named : IsNamed names (map vertex_of es) links) (found : lookup (nat_eq id) es ≡ Some node)
+    (idle : has_incident_triple (kept_graph names (map vertex_of es) links) id ≡ false) (entries : fs ≡ swap_remove_entry (nat_eq id) es)
+    (set : (q : ℕ) → lookup (nat_eq q) fs ≡ cond (nat_eq id q) None (lookup (nat_eq q) es)) (low : (q : ℕ) → slot names' q ≡ lowered_in node.labels (slot names q)) where
+  without : IsPermutation (map vertex_of es) (vertex_of (id, node) ∷ map vertex_of fs)
+  without =
+      let P : List (ℕ × Node R) → Type 0 = λ l. IsPermutation (map vertex_of es) (vertex_of (id, node) ∷ map vertex_of l) in
+      subst P (sym entries) (IsPermutation-map vertex_of es ((id, node) ∷ swap_remove_entry (nat_eq id) es) (taken id es node found))
+
   -- and so do names, vertices and links
-  pub dropped_named : IsNamed names' (map vertex_of fs) (keys_of places)
-  dropped_named = removed_vertex_named names names' (map vertex_of es) (map vertex_of fs) (keys_of places) (vertex_of (id, node)) named low without (none_left id es fs set)
+  pub dropped_named : IsNamed names' (map vertex_of fs) links
+  dropped_named = removed_vertex_named names names' (map vertex_of es) (map vertex_of fs) links (vertex_of (id, node)) named low without (none_left id es fs set)
 
   -- what is kept is the graph without the vertex
-  pub dropped : drop_vertex (kept_graph names (map vertex_of es) (keys_of places)) id
-      ≡ Ok (kept_graph names' (map vertex_of fs) (keys_of places))
+  pub dropped : drop_vertex (kept_graph names (map vertex_of es) links) id
+      ≡ Ok (kept_graph names' (map vertex_of fs) links)
   dropped =
       let okay : Graph → Result Graph Code = λ g. Ok g in
-      drop_vertex_done (kept_graph names (map vertex_of es) (keys_of places)) id (has_vertex_of names es (keys_of places) id ∙ ap is_some found) (incident_is es places placed id names (map vertex_of es) ∙ idle)
-      ∙ ap okay (graph_without names names' (map vertex_of es) (map vertex_of fs) (keys_of places) (vertex_of (id, node)) named low without (none_left id es fs set))
+      drop_vertex_done (kept_graph names (map vertex_of es) links) id (has_vertex_of names es links id ∙ ap is_some found) idle
+      ∙ ap okay (graph_without names names' (map vertex_of es) (map vertex_of fs) links (vertex_of (id, node)) named low without (none_left id es fs set))
 
   -- which is within the limits
-  pub dropped_held : (limits : Limits) → IsWithinLimits limits (kept_graph names (map vertex_of es) (keys_of places)) →
-      IsWithinLimits limits (kept_graph names' (map vertex_of fs) (keys_of places))
-  dropped_held limits held = held_after limits (kept_graph names (map vertex_of es) (keys_of places)) (kept_graph names' (map vertex_of fs) (keys_of places)) (DropVertex id) held tt dropped
+  pub dropped_held : (limits : Limits) → IsWithinLimits limits (kept_graph names (map vertex_of es) links) →
+      IsWithinLimits limits (kept_graph names' (map vertex_of fs) links)
+  dropped_held limits held = held_after limits (kept_graph names (map vertex_of es) links) (kept_graph names' (map vertex_of fs) links) (DropVertex id) held tt dropped
 
 -- ---- a vertex more
 
-module _ (limits : Limits) (names names' : List (Option Name)) (es mid fs : List (ℕ × Node)) (places : List (Link × Places)) (id : ℕ)
-    (node : Node) (labels : List (List ℕ))
-    (placed : ArePlaced es places) (named : IsNamed names (map vertex_of es) (keys_of places)) (absent : is_some (lookup (nat_eq id) es) ≡ false)
-    (room : nat_le limits.vertices (length (kept_graph names (map vertex_of es) (keys_of places)).vertices) || nat_lt limits.labels (name_count (kept_graph names (map vertex_of es) (keys_of places)) labels) ≡ false)
-    (bears : node.labels ≡ labels) (no_outs : node.outs.items ≡ []) (no_ins : node.ins.items ≡ []) (same : mid ≡ es) (entries : fs ≡ mid ++ (id, node) ∷ [])
-    (found : (q : ℕ) → lookup (nat_eq q) fs ≡ cond (nat_eq id q) (Some node) (lookup (nat_eq q) mid)) (raised : IsRaised labels names names') where
-  set : (q : ℕ) → lookup (nat_eq q) fs ≡ cond (nat_eq id q) (Some node) (lookup (nat_eq q) es)
-  set q = found q ∙ ap (λ (l : List (ℕ × Node)). cond (nat_eq id q) (Some node) (lookup (nat_eq q) l)) same
-
+module _ (es mid fs : List (ℕ × Node Row)) (places : List (Link × Places ℕ)) (id : ℕ) (node : Node Row)
+    (placed : ArePlaced es places) (absent : is_some (lookup (nat_eq id) es) ≡ false)
+    (no_outs : node.outs.items ≡ []) (no_ins : node.ins.items ≡ []) (same : mid ≡ es)
+    (found : (q : ℕ) → lookup (nat_eq q) fs ≡ cond (nat_eq id q) (Some node) (lookup (nat_eq q) mid)) where
   -- rows and places belong together after it
   pub added_placed : ArePlaced fs places
-  added_placed = placed_more id node es fs set (none_from (lookup (nat_eq id) es) absent) places no_outs no_ins placed
+  added_placed = placed_more id node es fs (λ q. found q ∙ ap (λ (l : List (ℕ × Node Row)). cond (nat_eq id q) (Some node) (lookup (nat_eq q) l)) same) (none_from (lookup (nat_eq id) es) absent) places no_outs no_ins placed
 
+module _ {R : Type 0} (limits : Limits) (names names' : List (Option Name)) (es mid fs : List (ℕ × Node R)) (links : List Link) (id : ℕ) (node : Node R) (labels : List (List ℕ))
+    (named : IsNamed names (map vertex_of es) links) (absent : is_some (lookup (nat_eq id) es) ≡ false)
+    (room : nat_le limits.vertices (length (kept_graph names (map vertex_of es) links).vertices) || nat_lt limits.labels (name_count (kept_graph names (map vertex_of es) links) labels) ≡ false)
+    (bears : node.labels ≡ labels) (same : mid ≡ es) (entries : fs ≡ mid ++ (id, node) ∷ []) (raised : IsRaised labels names names') where
   fresh : list_any (λ (w : Vertex). w.id == id) (map vertex_of es) ≡ false
   fresh = any_vertex es id ∙ (sym (is_some-lookup (nat_eq id) es) ∙ absent)
 
   first : IsPermutation (record { id = id; labels = labels } ∷ map vertex_of es) (map vertex_of fs)
   first =
       let P : List (List ℕ) → Type 0 = λ l. IsPermutation (record { id = id; labels = l } ∷ map vertex_of es) (map vertex_of fs) in
-      subst P bears (pushed_first es (id, node) fs (entries ∙ ap (λ (l : List (ℕ × Node)). l ++ (id, node) ∷ []) same))
+      subst P bears (pushed_first es (id, node) fs (entries ∙ ap (λ (l : List (ℕ × Node R)). l ++ (id, node) ∷ []) same))
 
   -- and so do names, vertices and links
-  pub added_named : IsNamed names' (map vertex_of fs) (keys_of places)
-  added_named = named_with names names' (map vertex_of es) (map vertex_of fs) (keys_of places) (record { id = id; labels = labels }) named raised fresh first
+  pub added_named : IsNamed names' (map vertex_of fs) links
+  added_named = named_with names names' (map vertex_of es) (map vertex_of fs) links (record { id = id; labels = labels }) named raised fresh first
 
   -- what is kept is the graph with the vertex
-  pub added_vertex : add_vertex limits (kept_graph names (map vertex_of es) (keys_of places)) (record { id = id; labels = labels })
-      ≡ Ok (kept_graph names' (map vertex_of fs) (keys_of places))
+  pub added_vertex : add_vertex limits (kept_graph names (map vertex_of es) links) (record { id = id; labels = labels })
+      ≡ Ok (kept_graph names' (map vertex_of fs) links)
   added_vertex =
       let okay : Graph → Result Graph Code = λ g. Ok g in
-      add_vertex_done limits (kept_graph names (map vertex_of es) (keys_of places)) (record { id = id; labels = labels }) (has_vertex_of names es (keys_of places) id ∙ absent) room
-      ∙ ap okay (graph_with names names' (map vertex_of es) (map vertex_of fs) (keys_of places) (record { id = id; labels = labels }) named raised fresh first)
+      add_vertex_done limits (kept_graph names (map vertex_of es) links) (record { id = id; labels = labels }) (has_vertex_of names es links id ∙ absent) room
+      ∙ ap okay (graph_with names names' (map vertex_of es) (map vertex_of fs) links (record { id = id; labels = labels }) named raised fresh first)
 
   -- which is within the limits
-  pub added_held : id < 2 ^ 32 → IsLabelSet labels → IsWithinLimits limits (kept_graph names (map vertex_of es) (keys_of places)) →
-      IsWithinLimits limits (kept_graph names' (map vertex_of fs) (keys_of places))
+  pub added_held : id < 2 ^ 32 → IsLabelSet labels → IsWithinLimits limits (kept_graph names (map vertex_of es) links) →
+      IsWithinLimits limits (kept_graph names' (map vertex_of fs) links)
   added_held small is_set held =
       let sound : IsVertex (record { id = id; labels = labels }) = record { id = small; labels = is_set } in
-      held_after limits (kept_graph names (map vertex_of es) (keys_of places)) (kept_graph names' (map vertex_of fs) (keys_of places)) (AddVertex id labels) held sound added_vertex
+      held_after limits (kept_graph names (map vertex_of es) links) (kept_graph names' (map vertex_of fs) links) (AddVertex id labels) held sound added_vertex
 
 -- ---- numbers that stand for what they stood for
 
-module _ (names names' : List (Option Name)) (es fs : List (ℕ × Node)) (links : List Link) (slots : (q : ℕ) → slot names' q ≡ slot names q)
+module _ {R : Type 0} (names names' : List (Option Name)) (es fs : List (ℕ × Node R)) (links : List Link) (slots : (q : ℕ) → slot names' q ≡ slot names q)
     (entries : fs ≡ es) where
   -- they keep belonging to the vertices and links
   pub kept_named : IsNamed names (map vertex_of es) links → IsNamed names' (map vertex_of fs) links

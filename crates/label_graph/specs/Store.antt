@@ -8,7 +8,6 @@ use Rattle.flux_model.specs.declared.graph.Vertex.{Vertex}
 use Rattle.flux_model.specs.declared.graph.Triple.{Triple}
 use Rattle.label_graph.specs.declared.link.Link.{Link}
 use Rattle.label_graph.specs.declared.link.Node.{Node}
-use Rattle.label_graph.specs.declared.link.Places.{Places}
 use Rattle.label_graph.specs.declared.link.RowEntry.{RowEntry}
 use Rattle.label_graph.specs.declared.names.Name.{Name}
 use Rattle.label_graph.specs.Places.{vertex_of}
@@ -26,7 +25,7 @@ kept_graph names vertices links =
     record { vertices = sorted vertex_cmp vertices; triples = sorted triple_cmp (map (triple_of names) links) }
 
 -- the graph of the nodes and of the triples that have places
-abbrev pub node_graph : List (Option Name) → List (ℕ × Node) → List (Link × Places) → Graph
+abbrev pub node_graph : {R W : Type 0} → List (Option Name) → List (ℕ × Node R) → List (Link × W) → Graph
 node_graph names nodes places = kept_graph names (map vertex_of nodes) (keys_of places)
 
 -- how often a number is used: by triples, and by vertices that bear its name

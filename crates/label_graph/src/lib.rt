@@ -1,7 +1,8 @@
 //! Graphs in the form that an index runs on: ids found by hashing, and for each vertex the row of its outgoing triples and
 //! the row of its incoming ones.
 //!
-//! The traits of `graph_traits` are handed on.
+//! The traits of `graph_traits` are handed on. The modules that are public speak of no vector, or of any form of a row: another
+//! store may stand on them.
 //!
 //! The store:
 //!
@@ -13,14 +14,14 @@
 //! - `store`: `LabelGraph`, with the three traits in `store/hold`, `store/read` and `store/keep`.
 #![tactic(auto)]
 
-mod hashed;
-mod link;
+pub mod hashed;
+pub mod link;
 mod links;
-mod names;
+pub mod names;
 mod place;
 mod row;
 mod step;
-mod store;
+pub mod store;
 
 pub use graph_traits::{HoldGraph, KeepGraph, ReadGraph, Spot, Turn};
 pub use store::LabelGraph;

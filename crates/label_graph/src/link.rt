@@ -23,17 +23,17 @@ pub struct RowEntry {
     pub other: u32,
 }
 
-/// Where a triple stands in the out row of its source and in the in row of its target.
+/// Where a triple stands in the out row of its source and in the in row of its target. What a place is says the store.
 #[derive(Clone, Copy, Debug)]
-pub struct Places {
-    pub out_at: usize,
-    pub in_at: usize,
+pub struct Places<P> {
+    pub out_at: P,
+    pub in_at: P,
 }
 
-/// A vertex: its labels and its two rows.
+/// A vertex: its labels and its two rows, in the store's own form.
 #[derive(Drop)]
-pub struct Node {
+pub struct Node<R> {
     pub labels: Labels,
-    pub outs: Vec<RowEntry>,
-    pub ins: Vec<RowEntry>,
+    pub outs: R,
+    pub ins: R,
 }

@@ -16,9 +16,9 @@ use seeded_hash::SeededState;
 use std::alloc::Global;
 
 mod hold;
-mod keep;
+pub mod keep;
 mod read;
-mod vertices;
+pub mod vertices;
 
 /// A graph under limits. Each vertex has its rows as vectors, and each triple knows its places in them.
 ///

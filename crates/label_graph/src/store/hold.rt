@@ -6,7 +6,7 @@ ghost use Rattle.label_graph.specs.Names.{text_at};
 ghost use Rattle.label_graph.specs.Places.{outs, ins};
 ghost use Rattle.label_graph.specs.Meaning.{graph_in, outs_in, ins_in, IsOfVertex};
 
-use crate::link::Node;
+use crate::link::{Node, RowEntry};
 use crate::store::LabelGraph;
 use crate::store::vertices::index_of;
 use flux_model::Text;
@@ -14,7 +14,7 @@ use graph_traits::{HoldGraph, Spot};
 
 impl LabelGraph {
     /// What is kept of `v`, which has to be a vertex.
-    pub(super) fn node(&self, v: u32) -> &Node
+    pub(super) fn node(&self, v: u32) -> &Node<Vec<RowEntry>>
         requires { IsTrue (has_vertex (graph_in self.now) v) }
         ensures { lookup (nat_eq v) self.now.nodes.entries ≡ Some result.now }
     {
@@ -22,7 +22,7 @@ impl LabelGraph {
     }
 
     /// What is kept of the vertex `v`, by a place of one of its rows.
-    pub(super) fn node_at(&self, _v: u32, at: Spot) -> &Node
+    pub(super) fn node_at(&self, _v: u32, at: Spot) -> &Node<Vec<RowEntry>>
         requires { IsOfVertex self.now _v at }
         ensures { lookup (nat_eq _v) self.now.nodes.entries ≡ Some result.now }
     {

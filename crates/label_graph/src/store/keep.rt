@@ -2,14 +2,15 @@
 ghost use Rattle.std.specs.Prelude.{◌≡◌, ◌||◌, ◌+◌, nat_le, nat_lt, if◌then◌else◌};
 ghost use Rattle.label_graph.specs.Known.{known_stands};
 
-use crate::hashed::Standing;
 use crate::link::{Link, Places};
 use crate::links::{join, part};
 use crate::store::LabelGraph;
 use crate::store::vertices::{bare_node, has_entries, index_of, lacks_room, put_node};
 use flux_model::{Code, Labels, Triple};
 use graph_traits::KeepGraph;
+use seeded_hash::SeededState;
 use std::alloc::AllocError;
+use std::collections::HashMap;
 
 impl KeepGraph for LabelGraph {
     fn add_vertex(&mut self, id: u32, labels: &Labels) -> Result<Result<(), Code>, AllocError> {
@@ -108,7 +109,12 @@ impl KeepGraph for LabelGraph {
 }
 
 /// Whether the triple with this number of its label, if it has one, stands.
-fn stands(places: &Standing, known: Option<u32>, src: u32, dst: u32) -> bool
+pub fn stands<P>(
+    places: &HashMap<Link, Places<P>, SeededState>,
+    known: Option<u32>,
+    src: u32,
+    dst: u32,
+) -> bool
     ensures { result ≡ known_stands places.now.entries known src dst }
 {
     match known {
@@ -118,7 +124,7 @@ fn stands(places: &Standing, known: Option<u32>, src: u32, dst: u32) -> bool
 }
 
 /// Whether the triples are as many as their limit, or the names, with one more where it is new, more than theirs.
-fn is_full(limit: u64, count: usize, name_limit: u64, names: usize, known: bool) -> bool
+pub fn is_full(limit: u64, count: usize, name_limit: u64, names: usize, known: bool) -> bool
     ensures { result ≡ (nat_le limit count || nat_lt name_limit (names + (if known then 0 else 1))) }
 {
     let many = if known {

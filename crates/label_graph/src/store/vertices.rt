@@ -5,8 +5,10 @@ ghost use Rattle.indexmap.specs.IndexMap.{spare};
 ghost use Rattle.label_graph.specs.Places.{outs, ins};
 
 use crate::hashed::Nodes;
-use crate::link::Node;
+use crate::link::{Node, RowEntry};
 use flux_model::Labels;
+use indexmap::IndexMap;
+use seeded_hash::SeededState;
 use std::alloc::{AllocError, Global};
 
 /// Whether the vertices are as many as their limit, or the names, with some more, pass theirs.
@@ -21,7 +23,9 @@ pub fn lacks_room(limit: u64, count: usize, name_limit: u64, names: usize, more:
 }
 
 /// Where `v` stands among the vertices, if it does.
-pub fn index_of(nodes: &Nodes, v: u32) -> Option<usize>
+pub fn index_of<R>(nodes: &IndexMap<u32, Node<R>, SeededState>, v: u32) -> Option<usize>
+where
+    R: Drop,
     ensures at { IfSome result (λ i. slice_get (keys_of nodes.now.entries) i ≡ Some v) }
     ensures stands { is_some (lookup (nat_eq v) nodes.now.entries) ≡ is_some result }
 {
@@ -38,7 +42,7 @@ pub fn has_entries(nodes: &Nodes, v: u32) -> bool
 }
 
 /// A vertex with these labels and no triples.
-pub fn bare_node(alloc: Global, labels: &Labels) -> Result<Node, AllocError>
+pub fn bare_node(alloc: Global, labels: &Labels) -> Result<Node<Vec<RowEntry>>, AllocError>
     ensures labels { IfOk result (λ node. node.labels ≡ labels.now) }
     ensures outs { IfOk result (λ node. node.outs.items ≡ []) }
     ensures ins { IfOk result (λ node. node.ins.items ≡ []) }
@@ -51,7 +55,9 @@ pub fn bare_node(alloc: Global, labels: &Labels) -> Result<Node, AllocError>
 }
 
 /// Puts a new vertex behind the others. There has to be room for it.
-pub fn put_node(nodes: &mut Nodes, id: u32, node: Node)
+pub fn put_node<R>(nodes: &mut IndexMap<u32, Node<R>, SeededState>, id: u32, node: Node<R>)
+where
+    R: Drop,
     requires room { 0 < spare nodes.old }
     requires new { lookup (nat_eq id) nodes.old.entries ≡ None }
     ensures entries { nodes.new.entries ≡ nodes.old.entries ++ (id, node) ∷ [] }

@@ -1,4 +1,4 @@
-use Rattle.std.proofs.Common.{◌≡◌, Some, refl, sym, ap, ◌∙◌, subst, List, ◌∷◌, cond, false}
+use Rattle.std.proofs.Common.{ℕ, ◌≡◌, Some, refl, sym, ap, ◌∙◌, subst, List, ◌∷◌, cond, false}
 use Rattle.std.specs.Prelude.{IsPermutation, is_some, slice_get}
 use Rattle.std.specs.List.{list_any}
 use Rattle.std.proofs.lemmas.Map.Made.{is_some-lookup}
@@ -32,13 +32,13 @@ leave_in-requires-clause-placed c =
 pub returns-clause-parted : goal.returns-clause-parted
 returns-clause-parted c =
     let was : lookup (link_eq c.args.k) c.args.places.now.entries ≡ Some c.in-Some.at = sym c.in-Some.ensures.value in
-    let left : List (Link × Places) = remove_entry (link_eq c.args.k) c.args.places.now.entries in
+    let left : List (Link × Places ℕ) = remove_entry (link_eq c.args.k) c.args.places.now.entries in
     let P : List Link → Type 0 = λ ks. IsPermutation (keys_of c.args.places.now.entries) (c.args.k ∷ ks) in
     subst P (sym (c.leave_in.ensures.links ∙ c.leave_out.ensures.links))
     (IsPermutation-trans (keys_of c.args.places.now.entries) (c.args.k ∷ keys_of left) (c.args.k ∷ keys_of c.remove.new.self.entries)
     (keys_removed c.args.k c.args.places.now.entries c.in-Some.at was)
     (IsPermutation-cons c.args.k (keys_of left) (keys_of c.remove.new.self.entries)
-    (IsPermutation-map (λ (e : Link × Places). e.0) left c.remove.new.self.entries c.in-Some.ensures.entries)))
+    (IsPermutation-map (λ (e : Link × Places ℕ). e.0) left c.remove.new.self.entries c.in-Some.ensures.entries)))
 
 pub returns-clause-gone : goal.returns-clause-gone
 returns-clause-gone c =

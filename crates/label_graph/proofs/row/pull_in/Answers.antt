@@ -4,7 +4,7 @@ use Rattle.std.specs.Option.{option_copied_mut}
 use Rattle.std.specs.Map.{lookup}
 use Rattle.indexmap.specs.IndexMap.{set_value_at}
 use Rattle.label_graph.specs.declared.link.Node.{Node}
-use Rattle.label_graph.specs.Places.{outs_of, ins_of, IsPulled}
+use Rattle.label_graph.specs.Places.{Row, outs_of, ins_of, IsPulled}
 use Rattle.label_graph.proofs.NodeLemmas.{found, here, same, other, keys, vertices}
 use Rattle.label_graph.proofs.row.pull_in.Goals as goal
 
@@ -17,7 +17,7 @@ pull-requires c =
 pub returns-clause-row : goal.returns-clause-row
 returns-clause-row c =
     let old = c.unwrap-node.result.now in
-    let new : Node = record { labels = c.unwrap-node.result.now.labels; outs = c.unwrap-node.result.now.outs; ins = c.pull.new.row } in
+    let new : Node Row = record { labels = c.unwrap-node.result.now.labels; outs = c.unwrap-node.result.now.outs; ins = c.pull.new.row } in
     let was = sym c.get_index_mut.ensures.value ∙ ap option_copied_mut c.unwrap-node.ensures in
     let rows = ap ins_of (here c.args.nodes.now c.args.v old new c.get_index_mut.ensures.unique c.requires.at was) in
     let before = ap ins_of (found c.args.nodes.now c.args.v old new c.get_index_mut.ensures.unique c.requires.at was) in
@@ -26,34 +26,34 @@ returns-clause-row c =
 pub returns-clause-moved : goal.returns-clause-moved
 returns-clause-moved c =
     let old = c.unwrap-node.result.now in
-    let new : Node = record { labels = c.unwrap-node.result.now.labels; outs = c.unwrap-node.result.now.outs; ins = c.pull.new.row } in
+    let new : Node Row = record { labels = c.unwrap-node.result.now.labels; outs = c.unwrap-node.result.now.outs; ins = c.pull.new.row } in
     let was = sym c.get_index_mut.ensures.value ∙ ap option_copied_mut c.unwrap-node.ensures in
     c.pull.ensures.moved ∙ ap (λ o. slice_get (ins_of o) c.args.i) (sym (here c.args.nodes.now c.args.v old new c.get_index_mut.ensures.unique c.requires.at was))
 
 pub returns-clause-others : goal.returns-clause-others
 returns-clause-others c =
     let old = c.unwrap-node.result.now in
-    let new : Node = record { labels = c.unwrap-node.result.now.labels; outs = c.unwrap-node.result.now.outs; ins = c.pull.new.row } in
+    let new : Node Row = record { labels = c.unwrap-node.result.now.labels; outs = c.unwrap-node.result.now.outs; ins = c.pull.new.row } in
     let was = sym c.get_index_mut.ensures.value ∙ ap option_copied_mut c.unwrap-node.ensures in
     other c.args.nodes.now c.args.v old new c.get_index_mut.ensures.unique c.requires.at was ins_of
 
 pub returns-clause-outs : goal.returns-clause-outs
 returns-clause-outs c =
     let old = c.unwrap-node.result.now in
-    let new : Node = record { labels = c.unwrap-node.result.now.labels; outs = c.unwrap-node.result.now.outs; ins = c.pull.new.row } in
+    let new : Node Row = record { labels = c.unwrap-node.result.now.labels; outs = c.unwrap-node.result.now.outs; ins = c.pull.new.row } in
     let was = sym c.get_index_mut.ensures.value ∙ ap option_copied_mut c.unwrap-node.ensures in
     same c.args.nodes.now c.args.v old new c.get_index_mut.ensures.unique c.requires.at was outs_of refl
 
 pub returns-clause-vertices : goal.returns-clause-vertices
 returns-clause-vertices c =
     let old = c.unwrap-node.result.now in
-    let new : Node = record { labels = c.unwrap-node.result.now.labels; outs = c.unwrap-node.result.now.outs; ins = c.pull.new.row } in
+    let new : Node Row = record { labels = c.unwrap-node.result.now.labels; outs = c.unwrap-node.result.now.outs; ins = c.pull.new.row } in
     let was = sym c.get_index_mut.ensures.value ∙ ap option_copied_mut c.unwrap-node.ensures in
     vertices c.args.nodes.now c.args.v old new c.get_index_mut.ensures.unique c.requires.at was refl
 
 pub returns-clause-keys : goal.returns-clause-keys
 returns-clause-keys c =
     let old = c.unwrap-node.result.now in
-    let new : Node = record { labels = c.unwrap-node.result.now.labels; outs = c.unwrap-node.result.now.outs; ins = c.pull.new.row } in
+    let new : Node Row = record { labels = c.unwrap-node.result.now.labels; outs = c.unwrap-node.result.now.outs; ins = c.pull.new.row } in
     let was = sym c.get_index_mut.ensures.value ∙ ap option_copied_mut c.unwrap-node.ensures in
     keys c.args.nodes.now c.args.v old new c.get_index_mut.ensures.unique c.requires.at was

@@ -4,7 +4,7 @@ use Rattle.std.specs.Option.{option_copied_mut}
 use Rattle.std.specs.Map.{lookup}
 use Rattle.indexmap.specs.IndexMap.{set_value_at}
 use Rattle.label_graph.specs.declared.link.Node.{Node}
-use Rattle.label_graph.specs.Places.{outs_of, ins_of, IsPulled}
+use Rattle.label_graph.specs.Places.{Row, outs_of, ins_of, IsPulled}
 use Rattle.label_graph.proofs.NodeLemmas.{found, here, same, other, keys, vertices}
 use Rattle.label_graph.proofs.row.pull_out.Goals as goal
 
@@ -17,7 +17,7 @@ pull-requires c =
 pub returns-clause-row : goal.returns-clause-row
 returns-clause-row c =
     let old = c.unwrap-node.result.now in
-    let new : Node = record { labels = c.unwrap-node.result.now.labels; outs = c.pull.new.row; ins = c.unwrap-node.result.now.ins } in
+    let new : Node Row = record { labels = c.unwrap-node.result.now.labels; outs = c.pull.new.row; ins = c.unwrap-node.result.now.ins } in
     let was = sym c.get_index_mut.ensures.value ∙ ap option_copied_mut c.unwrap-node.ensures in
     let rows = ap outs_of (here c.args.nodes.now c.args.v old new c.get_index_mut.ensures.unique c.requires.at was) in
     let before = ap outs_of (found c.args.nodes.now c.args.v old new c.get_index_mut.ensures.unique c.requires.at was) in
@@ -26,34 +26,34 @@ returns-clause-row c =
 pub returns-clause-moved : goal.returns-clause-moved
 returns-clause-moved c =
     let old = c.unwrap-node.result.now in
-    let new : Node = record { labels = c.unwrap-node.result.now.labels; outs = c.pull.new.row; ins = c.unwrap-node.result.now.ins } in
+    let new : Node Row = record { labels = c.unwrap-node.result.now.labels; outs = c.pull.new.row; ins = c.unwrap-node.result.now.ins } in
     let was = sym c.get_index_mut.ensures.value ∙ ap option_copied_mut c.unwrap-node.ensures in
     c.pull.ensures.moved ∙ ap (λ o. slice_get (outs_of o) c.args.i) (sym (here c.args.nodes.now c.args.v old new c.get_index_mut.ensures.unique c.requires.at was))
 
 pub returns-clause-others : goal.returns-clause-others
 returns-clause-others c =
     let old = c.unwrap-node.result.now in
-    let new : Node = record { labels = c.unwrap-node.result.now.labels; outs = c.pull.new.row; ins = c.unwrap-node.result.now.ins } in
+    let new : Node Row = record { labels = c.unwrap-node.result.now.labels; outs = c.pull.new.row; ins = c.unwrap-node.result.now.ins } in
     let was = sym c.get_index_mut.ensures.value ∙ ap option_copied_mut c.unwrap-node.ensures in
     other c.args.nodes.now c.args.v old new c.get_index_mut.ensures.unique c.requires.at was outs_of
 
 pub returns-clause-ins : goal.returns-clause-ins
 returns-clause-ins c =
     let old = c.unwrap-node.result.now in
-    let new : Node = record { labels = c.unwrap-node.result.now.labels; outs = c.pull.new.row; ins = c.unwrap-node.result.now.ins } in
+    let new : Node Row = record { labels = c.unwrap-node.result.now.labels; outs = c.pull.new.row; ins = c.unwrap-node.result.now.ins } in
     let was = sym c.get_index_mut.ensures.value ∙ ap option_copied_mut c.unwrap-node.ensures in
     same c.args.nodes.now c.args.v old new c.get_index_mut.ensures.unique c.requires.at was ins_of refl
 
 pub returns-clause-vertices : goal.returns-clause-vertices
 returns-clause-vertices c =
     let old = c.unwrap-node.result.now in
-    let new : Node = record { labels = c.unwrap-node.result.now.labels; outs = c.pull.new.row; ins = c.unwrap-node.result.now.ins } in
+    let new : Node Row = record { labels = c.unwrap-node.result.now.labels; outs = c.pull.new.row; ins = c.unwrap-node.result.now.ins } in
     let was = sym c.get_index_mut.ensures.value ∙ ap option_copied_mut c.unwrap-node.ensures in
     vertices c.args.nodes.now c.args.v old new c.get_index_mut.ensures.unique c.requires.at was refl
 
 pub returns-clause-keys : goal.returns-clause-keys
 returns-clause-keys c =
     let old = c.unwrap-node.result.now in
-    let new : Node = record { labels = c.unwrap-node.result.now.labels; outs = c.pull.new.row; ins = c.unwrap-node.result.now.ins } in
+    let new : Node Row = record { labels = c.unwrap-node.result.now.labels; outs = c.pull.new.row; ins = c.unwrap-node.result.now.ins } in
     let was = sym c.get_index_mut.ensures.value ∙ ap option_copied_mut c.unwrap-node.ensures in
     keys c.args.nodes.now c.args.v old new c.get_index_mut.ensures.unique c.requires.at was

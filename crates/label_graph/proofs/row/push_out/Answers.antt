@@ -2,7 +2,7 @@ use Rattle.std.proofs.Common.{rules, ◌≡◌, ◌<◌, [], ◌∷◌, ◌++◌
 use Rattle.std.specs.Prelude.{IsSomeAnd, vec_len, vec_capacity}
 use Rattle.std.specs.Option.{option_copied_mut}
 use Rattle.label_graph.specs.declared.link.Node.{Node}
-use Rattle.label_graph.specs.Places.{outs_of, ins_of}
+use Rattle.label_graph.specs.Places.{Row, outs_of, ins_of}
 use Rattle.label_graph.proofs.NodeLemmas.{found, here, same, other, keys, vertices, keeps}
 use Rattle.label_graph.proofs.row.push_out.Goals as goal
 
@@ -17,49 +17,49 @@ unreachable-requires c =
 pub returns-clause-row : goal.returns-clause-row
 returns-clause-row c =
     let old = c.unwrap-node.result.now in
-    let new : Node = record { labels = c.unwrap-node.result.now.labels; outs = c.push.new.self; ins = c.unwrap-node.result.now.ins } in
+    let new : Node Row = record { labels = c.unwrap-node.result.now.labels; outs = c.push.new.self; ins = c.unwrap-node.result.now.ins } in
     let was = sym c.get_index_mut.ensures.value ∙ ap option_copied_mut c.unwrap-node.ensures in
     ap outs_of (here c.args.nodes.now c.args.v old new c.get_index_mut.ensures.unique c.requires.at was) ∙ c.in-Ok.ensures.items ∙ ap (λ o. outs_of o ++ c.args.entry ∷ []) (sym (found c.args.nodes.now c.args.v old new c.get_index_mut.ensures.unique c.requires.at was))
 
 pub returns-clause-others : goal.returns-clause-others
 returns-clause-others c =
     let old = c.unwrap-node.result.now in
-    let new : Node = record { labels = c.unwrap-node.result.now.labels; outs = c.push.new.self; ins = c.unwrap-node.result.now.ins } in
+    let new : Node Row = record { labels = c.unwrap-node.result.now.labels; outs = c.push.new.self; ins = c.unwrap-node.result.now.ins } in
     let was = sym c.get_index_mut.ensures.value ∙ ap option_copied_mut c.unwrap-node.ensures in
     other c.args.nodes.now c.args.v old new c.get_index_mut.ensures.unique c.requires.at was outs_of
 
 pub returns-clause-ins : goal.returns-clause-ins
 returns-clause-ins c =
     let old = c.unwrap-node.result.now in
-    let new : Node = record { labels = c.unwrap-node.result.now.labels; outs = c.push.new.self; ins = c.unwrap-node.result.now.ins } in
+    let new : Node Row = record { labels = c.unwrap-node.result.now.labels; outs = c.push.new.self; ins = c.unwrap-node.result.now.ins } in
     let was = sym c.get_index_mut.ensures.value ∙ ap option_copied_mut c.unwrap-node.ensures in
     same c.args.nodes.now c.args.v old new c.get_index_mut.ensures.unique c.requires.at was ins_of refl
 
 pub returns-clause-vertices : goal.returns-clause-vertices
 returns-clause-vertices c =
     let old = c.unwrap-node.result.now in
-    let new : Node = record { labels = c.unwrap-node.result.now.labels; outs = c.push.new.self; ins = c.unwrap-node.result.now.ins } in
+    let new : Node Row = record { labels = c.unwrap-node.result.now.labels; outs = c.push.new.self; ins = c.unwrap-node.result.now.ins } in
     let was = sym c.get_index_mut.ensures.value ∙ ap option_copied_mut c.unwrap-node.ensures in
     vertices c.args.nodes.now c.args.v old new c.get_index_mut.ensures.unique c.requires.at was refl
 
 pub returns-clause-keys : goal.returns-clause-keys
 returns-clause-keys c =
     let old = c.unwrap-node.result.now in
-    let new : Node = record { labels = c.unwrap-node.result.now.labels; outs = c.push.new.self; ins = c.unwrap-node.result.now.ins } in
+    let new : Node Row = record { labels = c.unwrap-node.result.now.labels; outs = c.push.new.self; ins = c.unwrap-node.result.now.ins } in
     let was = sym c.get_index_mut.ensures.value ∙ ap option_copied_mut c.unwrap-node.ensures in
     keys c.args.nodes.now c.args.v old new c.get_index_mut.ensures.unique c.requires.at was
 
 pub returns-clause-keeps : goal.returns-clause-keeps
 returns-clause-keeps c =
     let old = c.unwrap-node.result.now in
-    let new : Node = record { labels = c.unwrap-node.result.now.labels; outs = c.push.new.self; ins = c.unwrap-node.result.now.ins } in
+    let new : Node Row = record { labels = c.unwrap-node.result.now.labels; outs = c.push.new.self; ins = c.unwrap-node.result.now.ins } in
     let was = sym c.get_index_mut.ensures.value ∙ ap option_copied_mut c.unwrap-node.ensures in
     keeps c.args.nodes.now c.args.v old new c.get_index_mut.ensures.unique c.requires.at was (λ p. vec_len p.ins < vec_capacity p.ins) (λ h. h)
 
 pub returns-clause-place : goal.returns-clause-place
 returns-clause-place c =
     let old = c.unwrap-node.result.now in
-    let new : Node = record { labels = c.unwrap-node.result.now.labels; outs = c.push.new.self; ins = c.unwrap-node.result.now.ins } in
+    let new : Node Row = record { labels = c.unwrap-node.result.now.labels; outs = c.push.new.self; ins = c.unwrap-node.result.now.ins } in
     let was = sym c.get_index_mut.ensures.value ∙ ap option_copied_mut c.unwrap-node.ensures in
     let len : c.len-at.result ≡ length c.unwrap-node.result.now.outs.items = search rules in
     len ∙ ap (λ o. length (outs_of o)) (sym (found c.args.nodes.now c.args.v old new c.get_index_mut.ensures.unique c.requires.at was))

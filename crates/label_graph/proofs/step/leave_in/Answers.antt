@@ -1,4 +1,4 @@
-use Rattle.std.proofs.Common.{sym}
+use Rattle.std.proofs.Common.{ℕ, sym}
 use Rattle.std.specs.Map.{lookup}
 use Rattle.label_graph.specs.declared.link.Link.{Link}
 use Rattle.label_graph.specs.declared.link.Places.{Places}
@@ -12,7 +12,7 @@ pull_in-requires-clause-within c = pulled_within in_link (ins c.args.nodes.now.e
 pub set_in-requires : goal.set_in-requires
 set_in-requires c =
     let k : Link = record { src = c.in-Some.entry.other; label = c.in-Some.entry.label; dst = c.args.k.dst } in
-    IsSome-mapped (λ (p : Places). (k.dst, p.in_at)) (lookup (link_eq k) c.args.places.now.entries) _
+    IsSome-mapped (λ (p : Places ℕ). (k.dst, p.in_at)) (lookup (link_eq k) c.args.places.now.entries) _
     (moved_stands in_link (ins c.args.nodes.now.entries) (ins c.pull_in.new.nodes.entries) c.args.k.dst c.args.at c.args.k (in_place c.args.places.now.entries) c.requires.placed c.requires.gone
     c.in-Some.ensures.row c.in-Some.ensures.others c.in-Some.entry (sym c.in-Some.ensures.moved))
 

@@ -1,4 +1,4 @@
-use Rattle.std.proofs.Common.{sym}
+use Rattle.std.proofs.Common.{ℕ, sym}
 use Rattle.std.specs.Map.{lookup}
 use Rattle.label_graph.specs.declared.link.Link.{Link}
 use Rattle.label_graph.specs.declared.link.Places.{Places}
@@ -12,7 +12,7 @@ pull_out-requires-clause-within c = pulled_within out_link (outs c.args.nodes.no
 pub set_out-requires : goal.set_out-requires
 set_out-requires c =
     let k : Link = record { src = c.args.k.src; label = c.in-Some.entry.label; dst = c.in-Some.entry.other } in
-    IsSome-mapped (λ (p : Places). (k.src, p.out_at)) (lookup (link_eq k) c.args.places.now.entries) _
+    IsSome-mapped (λ (p : Places ℕ). (k.src, p.out_at)) (lookup (link_eq k) c.args.places.now.entries) _
     (moved_stands out_link (outs c.args.nodes.now.entries) (outs c.pull_out.new.nodes.entries) c.args.k.src c.args.at c.args.k (out_place c.args.places.now.entries) c.requires.placed c.requires.gone
     c.in-Some.ensures.row c.in-Some.ensures.others c.in-Some.entry (sym c.in-Some.ensures.moved))
 

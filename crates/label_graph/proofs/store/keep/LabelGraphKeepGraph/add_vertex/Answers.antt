@@ -4,7 +4,7 @@ use Rattle.std.specs.Map.{keys_of}
 use Rattle.flux_model.specs.Graph.{Graph, name_count}
 use Rattle.label_graph.specs.declared.link.Node.{Node}
 use Rattle.graph_traits.specs.WithinLimits.{IsWithinLimits}
-use Rattle.label_graph.specs.Places.{ArePlaced, vertex_of}
+use Rattle.label_graph.specs.Places.{Row, ArePlaced, vertex_of}
 use Rattle.label_graph.specs.Store.{kept_graph}
 use Rattle.label_graph.proofs.StoreLemmas.{has_vertex_of}
 use Rattle.label_graph.proofs.VertexCountLemmas.{room_is}
@@ -27,7 +27,7 @@ returns-then-lacks_room-clause-refused c =
 
 pub invariant_of-self-in-Break-branch-3 : goal.invariant_of-self-in-Break-branch-3
 invariant_of-self-in-Break-branch-3 c =
-    let P : List (ℕ × Node) → Type 0 = λ nodes. ArePlaced nodes c.args.self.now.places.entries in
+    let P : List (ℕ × Node Row) → Type 0 = λ nodes. ArePlaced nodes c.args.self.now.places.entries in
     let Q : Graph → Type 0 = λ g. IsWithinLimits c.args.self.now.limits g in
     record {
       placed = subst P (sym c.reserve.ensures.entries) c.args.self.now.placed;
@@ -43,15 +43,14 @@ invariant_of-self-2 c =
     c.args.self.now.named c.len-3.ensures.table c.len.ensures.set.ascending c.len-2.ensures.unique c.len-2.ensures.len c.len-3.ensures.value c.count_unknown-unknown.ensures
     ∙ (sym c.lacks_room.ensures ∙ c.if-lacks_room.false) in
     record {
-      placed = added_placed c.args.self.now.limits c.args.self.now.names c.raise_all.new.self c.args.self.now.nodes.entries c.reserve.new.self.entries c.put_node.new.nodes.entries c.args.self.now.places.entries c.args.id c.in_ok-node.node c.args.labels.now
-          c.args.self.now.placed c.args.self.now.named (sym c.contains_key.ensures ∙ c.if-contains_key.false) room
-          c.in_ok-node.ensures.labels c.in_ok-node.ensures.outs c.in_ok-node.ensures.ins c.reserve.ensures.entries c.put_node.ensures.entries c.put_node.ensures.found c.in_ok-raise_all.ensures.raised;
-      named = added_named c.args.self.now.limits c.args.self.now.names c.raise_all.new.self c.args.self.now.nodes.entries c.reserve.new.self.entries c.put_node.new.nodes.entries c.args.self.now.places.entries c.args.id c.in_ok-node.node c.args.labels.now
-          c.args.self.now.placed c.args.self.now.named (sym c.contains_key.ensures ∙ c.if-contains_key.false) room
-          c.in_ok-node.ensures.labels c.in_ok-node.ensures.outs c.in_ok-node.ensures.ins c.reserve.ensures.entries c.put_node.ensures.entries c.put_node.ensures.found c.in_ok-raise_all.ensures.raised;
-      held = added_held c.args.self.now.limits c.args.self.now.names c.raise_all.new.self c.args.self.now.nodes.entries c.reserve.new.self.entries c.put_node.new.nodes.entries c.args.self.now.places.entries c.args.id c.in_ok-node.node c.args.labels.now
-          c.args.self.now.placed c.args.self.now.named (sym c.contains_key.ensures ∙ c.if-contains_key.false) room
-          c.in_ok-node.ensures.labels c.in_ok-node.ensures.outs c.in_ok-node.ensures.ins c.reserve.ensures.entries c.put_node.ensures.entries c.put_node.ensures.found c.in_ok-raise_all.ensures.raised
+      placed = added_placed c.args.self.now.nodes.entries c.reserve.new.self.entries c.put_node.new.nodes.entries c.args.self.now.places.entries c.args.id c.in_ok-node.node
+          c.args.self.now.placed (sym c.contains_key.ensures ∙ c.if-contains_key.false) c.in_ok-node.ensures.outs c.in_ok-node.ensures.ins c.reserve.ensures.entries c.put_node.ensures.found;
+      named = added_named c.args.self.now.limits c.args.self.now.names c.raise_all.new.self c.args.self.now.nodes.entries c.reserve.new.self.entries c.put_node.new.nodes.entries (keys_of c.args.self.now.places.entries) c.args.id c.in_ok-node.node c.args.labels.now
+          c.args.self.now.named (sym c.contains_key.ensures ∙ c.if-contains_key.false) room
+          c.in_ok-node.ensures.labels c.reserve.ensures.entries c.put_node.ensures.entries c.in_ok-raise_all.ensures.raised;
+      held = added_held c.args.self.now.limits c.args.self.now.names c.raise_all.new.self c.args.self.now.nodes.entries c.reserve.new.self.entries c.put_node.new.nodes.entries (keys_of c.args.self.now.places.entries) c.args.id c.in_ok-node.node c.args.labels.now
+          c.args.self.now.named (sym c.contains_key.ensures ∙ c.if-contains_key.false) room
+          c.in_ok-node.ensures.labels c.reserve.ensures.entries c.put_node.ensures.entries c.in_ok-raise_all.ensures.raised
           c.ranges.id.fits c.len.ensures.set c.args.self.now.held;
     }
 
@@ -62,6 +61,6 @@ returns-clause-ok c =
     room_is c.args.self.now.limits c.args.self.now.names c.args.self.now.nodes.entries (keys_of c.args.self.now.places.entries) c.args.labels.now c.len-2.result c.len-3.result c.count_unknown-unknown.result
     c.args.self.now.named c.len-3.ensures.table c.len.ensures.set.ascending c.len-2.ensures.unique c.len-2.ensures.len c.len-3.ensures.value c.count_unknown-unknown.ensures
     ∙ (sym c.lacks_room.ensures ∙ c.if-lacks_room.false) in
-    added_vertex c.args.self.now.limits c.args.self.now.names c.raise_all.new.self c.args.self.now.nodes.entries c.reserve.new.self.entries c.put_node.new.nodes.entries c.args.self.now.places.entries c.args.id c.in_ok-node.node c.args.labels.now
-    c.args.self.now.placed c.args.self.now.named (sym c.contains_key.ensures ∙ c.if-contains_key.false) room
-    c.in_ok-node.ensures.labels c.in_ok-node.ensures.outs c.in_ok-node.ensures.ins c.reserve.ensures.entries c.put_node.ensures.entries c.put_node.ensures.found c.in_ok-raise_all.ensures.raised
+    added_vertex c.args.self.now.limits c.args.self.now.names c.raise_all.new.self c.args.self.now.nodes.entries c.reserve.new.self.entries c.put_node.new.nodes.entries (keys_of c.args.self.now.places.entries) c.args.id c.in_ok-node.node c.args.labels.now
+    c.args.self.now.named (sym c.contains_key.ensures ∙ c.if-contains_key.false) room
+    c.in_ok-node.ensures.labels c.reserve.ensures.entries c.put_node.ensures.entries c.in_ok-raise_all.ensures.raised

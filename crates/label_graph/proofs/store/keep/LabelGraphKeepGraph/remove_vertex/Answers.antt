@@ -25,17 +25,16 @@ pub invariant_of-self : goal.invariant_of-self
 invariant_of-self c =
     let found : lookup (nat_eq c.args.id) c.args.self.now.nodes.entries ≡ Some c.unwrap-node.result = sym c.swap_remove.ensures.value ∙ c.unwrap-node.ensures in
     record {
-      placed = dropped_placed c.args.self.now.names c.lower_all.new.self c.args.self.now.nodes.entries c.swap_remove.new.self.entries c.args.self.now.places.entries c.args.id c.unwrap-node.result
-          c.args.self.now.placed c.args.self.now.named found (sym c.has_entries.ensures ∙ c.if-has_entries.false) c.swap_remove.ensures.entries c.swap_remove.ensures.updates.0 c.lower_all.ensures;
-      named = dropped_named c.args.self.now.names c.lower_all.new.self c.args.self.now.nodes.entries c.swap_remove.new.self.entries c.args.self.now.places.entries c.args.id c.unwrap-node.result
-          c.args.self.now.placed c.args.self.now.named found (sym c.has_entries.ensures ∙ c.if-has_entries.false) c.swap_remove.ensures.entries c.swap_remove.ensures.updates.0 c.lower_all.ensures;
-      held = dropped_held c.args.self.now.names c.lower_all.new.self c.args.self.now.nodes.entries c.swap_remove.new.self.entries c.args.self.now.places.entries c.args.id c.unwrap-node.result
-          c.args.self.now.placed c.args.self.now.named found (sym c.has_entries.ensures ∙ c.if-has_entries.false) c.swap_remove.ensures.entries c.swap_remove.ensures.updates.0 c.lower_all.ensures
+      placed = dropped_placed c.args.self.now.nodes.entries c.swap_remove.new.self.entries c.args.self.now.places.entries c.args.id c.args.self.now.placed (sym c.has_entries.ensures ∙ c.if-has_entries.false) c.swap_remove.ensures.updates.0;
+      named = dropped_named c.args.self.now.names c.lower_all.new.self c.args.self.now.nodes.entries c.swap_remove.new.self.entries (keys_of c.args.self.now.places.entries) c.args.id c.unwrap-node.result
+          c.args.self.now.named found (incident_is c.args.self.now.nodes.entries c.args.self.now.places.entries c.args.self.now.placed c.args.id c.args.self.now.names (map vertex_of c.args.self.now.nodes.entries) ∙ (sym c.has_entries.ensures ∙ c.if-has_entries.false)) c.swap_remove.ensures.entries c.swap_remove.ensures.updates.0 c.lower_all.ensures;
+      held = dropped_held c.args.self.now.names c.lower_all.new.self c.args.self.now.nodes.entries c.swap_remove.new.self.entries (keys_of c.args.self.now.places.entries) c.args.id c.unwrap-node.result
+          c.args.self.now.named found (incident_is c.args.self.now.nodes.entries c.args.self.now.places.entries c.args.self.now.placed c.args.id c.args.self.now.names (map vertex_of c.args.self.now.nodes.entries) ∙ (sym c.has_entries.ensures ∙ c.if-has_entries.false)) c.swap_remove.ensures.entries c.swap_remove.ensures.updates.0 c.lower_all.ensures
           c.args.self.now.limits c.args.self.now.held;
     }
 
 pub returns-clause-ok : goal.returns-clause-ok
 returns-clause-ok c =
     let found : lookup (nat_eq c.args.id) c.args.self.now.nodes.entries ≡ Some c.unwrap-node.result = sym c.swap_remove.ensures.value ∙ c.unwrap-node.ensures in
-    dropped c.args.self.now.names c.lower_all.new.self c.args.self.now.nodes.entries c.swap_remove.new.self.entries c.args.self.now.places.entries c.args.id c.unwrap-node.result
-    c.args.self.now.placed c.args.self.now.named found (sym c.has_entries.ensures ∙ c.if-has_entries.false) c.swap_remove.ensures.entries c.swap_remove.ensures.updates.0 c.lower_all.ensures
+    dropped c.args.self.now.names c.lower_all.new.self c.args.self.now.nodes.entries c.swap_remove.new.self.entries (keys_of c.args.self.now.places.entries) c.args.id c.unwrap-node.result
+    c.args.self.now.named found (incident_is c.args.self.now.nodes.entries c.args.self.now.places.entries c.args.self.now.placed c.args.id c.args.self.now.names (map vertex_of c.args.self.now.nodes.entries) ∙ (sym c.has_entries.ensures ∙ c.if-has_entries.false)) c.swap_remove.ensures.entries c.swap_remove.ensures.updates.0 c.lower_all.ensures
