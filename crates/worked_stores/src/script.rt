@@ -1,7 +1,7 @@
 //! Scripts of calls, and what plays them.
 use crate::calls;
 use crate::calls::{Answer, Edge, Seen};
-use crate::star::{makes_star, takes_star};
+use crate::star::{Star, makes_star, takes_star};
 use flux_model::{Steps, Tally};
 use graph_traits::{KeepGraph, ReadGraph};
 use std::alloc::{AllocError, Global};
@@ -38,9 +38,9 @@ pub enum Line {
     Counted(u64),
     Seed(u64),
     /// The vertices of a star are added, and its edges.
-    MakeStar,
-    /// The edges of the star are removed in another order.
-    TakeStar,
+    MakeStar(Star),
+    /// The edges of the star are removed in its order, and its row is listed.
+    TakeStar(Star),
 }
 
 /// Whether the reads of the line answer as it says.
@@ -90,8 +90,8 @@ fn answers<G: KeepGraph + ReadGraph<Tally>>(
         Line::RemoveVertex(id, due) => Ok(calls::removes_vertex(graph, id, due)),
         Line::Insert(edge, due) => calls::inserts(rt, alloc, graph, edge, due),
         Line::Remove(edge, due) => calls::removes(rt, alloc, graph, edge, due),
-        Line::MakeStar => makes_star(rt, alloc, graph),
-        Line::TakeStar => takes_star(rt, alloc, graph, steps),
+        Line::MakeStar(star) => makes_star(rt, alloc, graph, star),
+        Line::TakeStar(star) => takes_star(rt, alloc, graph, star, steps),
         line => reads(rt, alloc, graph, line, steps),
     }
 }
@@ -101,14 +101,14 @@ pub(crate) fn play<G: KeepGraph + ReadGraph<Tally>>(
     rt: &impl Abort,
     alloc: Global,
     graph: &mut G,
-    name: &str,
+    (store, name): (&str, &str),
     script: &[Line],
 ) -> Result<(), AllocError> {
     let mut steps = Steps::new(Tally::new());
     for i in 0..script.len() {
         assert!(rt;
             answers(rt, alloc, graph, script[i], &mut steps)?,
-            "{name}, line {i}"
+            "{store}: {name}, line {i}"
         );
     }
     Ok(())

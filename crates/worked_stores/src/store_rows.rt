@@ -1,9 +1,11 @@
-//! Answers worked out by hand, as scripts of calls.
+//! Answers worked out by hand, as scripts of calls. Each script is played in each store.
 use crate::script::{Line, play};
+use crate::star::Star;
 use Line::{
     AddVertex, Counted, Degrees, Fits, HasEdge, HasEdgeByLabel, HasEdgeByNumber, HasVertex, Ids,
     InRow, Insert, LabelsOf, MakeStar, OutRow, Remove, RemoveVertex, Seed, Sizes, TakeStar,
 };
+use block_graph::BlockGraph;
 use flux_model::{Code, Limits};
 use label_graph::LabelGraph;
 use std::alloc::{AllocError, Global};
@@ -14,6 +16,7 @@ use std::test::Fail;
 #[derive(Clone, Copy)]
 enum Lowered {
     Nothing,
+    Vertices(u64),
     Edges(u64),
     Names(u64),
 }
@@ -31,23 +34,44 @@ fn limits(lowered: Lowered) -> Limits {
     let mut limits = Limits::standard();
     match lowered {
         Lowered::Nothing => {}
+        Lowered::Vertices(vertices) => limits.vertices = vertices,
         Lowered::Edges(edges) => limits.edges = edges,
         Lowered::Names(names) => limits.labels = names,
     }
     limits
 }
 
-/// Plays a script in an empty store of its own.
-fn play_case(rt: &impl Abort, alloc: Global, case: Case) -> Result<(), AllocError> {
+fn play_in_labels(rt: &impl Abort, alloc: Global, case: Case) -> Result<(), AllocError> {
     let limits = limits(case.lowered);
     assert!(rt; limits.fair());
     let mut graph = LabelGraph::with_seed(alloc, &limits, case.seed);
-    play(rt, alloc, &mut graph, case.name, case.script)
+    play(
+        rt,
+        alloc,
+        &mut graph,
+        ("LabelGraph", case.name),
+        case.script,
+    )
 }
 
+fn play_in_blocks(rt: &impl Abort, alloc: Global, case: Case) -> Result<(), AllocError> {
+    let limits = limits(case.lowered);
+    assert!(rt; limits.fair());
+    let mut graph = BlockGraph::with_seed(alloc, &limits, case.seed);
+    play(
+        rt,
+        alloc,
+        &mut graph,
+        ("BlockGraph", case.name),
+        case.script,
+    )
+}
+
+/// Plays each script in an empty store of its own, of each kind.
 fn play_all(rt: &impl Abort, alloc: Global, cases: &[Case]) -> Result<(), AllocError> {
     for case in cases {
-        play_case(rt, alloc, *case)?;
+        play_in_labels(rt, alloc, *case)?;
+        play_in_blocks(rt, alloc, *case)?;
     }
     Ok(())
 }
@@ -55,6 +79,20 @@ fn play_all(rt: &impl Abort, alloc: Global, cases: &[Case]) -> Result<(), AllocE
 // ---- refusals
 
 const REFUSALS: &[Case] = &[
+    Case {
+        name: "more vertices than the limit are refused",
+        lowered: Lowered::Vertices(2),
+        seed: 0,
+        script: &[
+            AddVertex(1, b"A", Ok(())),
+            AddVertex(2, b"A", Ok(())),
+            AddVertex(3, b"A", Err(Code::Full)),
+            AddVertex(2, b"A", Err(Code::Exists)),
+            RemoveVertex(1, Ok(())),
+            AddVertex(3, b"A", Ok(())),
+            Sizes(2, 0),
+        ],
+    },
     Case {
         name: "more triples than the limit are refused",
         lowered: Lowered::Edges(1),
@@ -257,22 +295,57 @@ fn each_read_is_what_was_put_in(rt: HostRuntime) -> Result<(), Fail> {
 
 // ---- a vertex of a high degree
 
-const MANY_EDGES: &[Case] = &[Case {
-    name: "a high degree is taken down in another order",
-    lowered: Lowered::Nothing,
-    seed: 7,
-    script: &[
-        MakeStar,
-        Sizes(10001, 10000),
-        Degrees(0, 10000, 0),
-        TakeStar,
-        Sizes(10001, 0),
-        Degrees(0, 0, 0),
-    ],
-}];
+const FAN: Star = Star {
+    degree: 40,
+    stride: 1,
+    one_label: true,
+    listed_each: true,
+};
+
+const BIG_STAR: Star = Star {
+    degree: 10000,
+    stride: 3889,
+    one_label: false,
+    listed_each: false,
+};
+
+const MANY_EDGES: &[Case] = &[
+    Case {
+        name: "a row is taken down in the order in which it was made",
+        lowered: Lowered::Nothing,
+        seed: 0,
+        script: &[
+            MakeStar(FAN),
+            Sizes(41, 40),
+            Degrees(0, 40, 0),
+            Degrees(40, 0, 1),
+            TakeStar(FAN),
+            Sizes(41, 0),
+            Degrees(0, 0, 0),
+            OutRow(0, &[]),
+            // What was given back serves again.
+            Insert((0, b's', 40), Ok(())),
+            OutRow(0, &[(b's', 40)]),
+            InRow(40, &[(b's', 0)]),
+        ],
+    },
+    Case {
+        name: "a high degree is taken down in another order",
+        lowered: Lowered::Nothing,
+        seed: 7,
+        script: &[
+            MakeStar(BIG_STAR),
+            Sizes(10001, 10000),
+            Degrees(0, 10000, 0),
+            TakeStar(BIG_STAR),
+            Sizes(10001, 0),
+            Degrees(0, 0, 0),
+        ],
+    },
+];
 
 #[test]
-fn a_high_degree_is_taken_down_in_another_order(rt: HostRuntime) -> Result<(), Fail> {
+fn many_edges_are_taken_down_in_any_order(rt: HostRuntime) -> Result<(), Fail> {
     play_all(&rt, rt.alloc(), MANY_EDGES)?;
     Ok(())
 }
