@@ -19,9 +19,9 @@ use crate::save::save_graph;
 use crate::status::Status;
 use crate::watch::watch_updates;
 use crate::words::{Shape, parse_shape};
+use block_graph::BlockGraph;
 use flux_model::{Ledger, Limits, Steps};
 use flux_outside::{Shelf, Sink, Source};
-use label_graph::LabelGraph;
 use std::alloc::Global;
 use watch_core::Session;
 
@@ -31,7 +31,7 @@ pub enum Kept {
     /// Nothing is handed back.
     Nothing,
     /// The session of a watch, which stands after all lines of the updates.
-    Watch(Session<LabelGraph>),
+    Watch(Session<BlockGraph>),
 }
 
 /// How a run ended, and what it hands back.
@@ -75,19 +75,19 @@ fn work<F: Shelf, S: Source, W: Sink, L: Ledger>(
 {
     match shape {
         Shape::Watch { graph, patterns } => {
-            let empty = LabelGraph::new(alloc, limits);
+            let empty = BlockGraph::new(alloc, limits);
             let session = watch_updates(
                 alloc, limits, graph, patterns, empty, shelf, updates, out, steps,
             )?;
             Ok(Kept::Watch(session))
         }
         Shape::Match { graph, patterns } => {
-            let empty = LabelGraph::new(alloc, limits);
+            let empty = BlockGraph::new(alloc, limits);
             list_answers(alloc, limits, graph, patterns, empty, shelf, out, steps)?;
             Ok(Kept::Nothing)
         }
         Shape::Save { graph } => {
-            let empty = LabelGraph::new(alloc, limits);
+            let empty = BlockGraph::new(alloc, limits);
             save_graph(alloc, limits, graph, empty, shelf, out, steps)?;
             Ok(Kept::Nothing)
         }
