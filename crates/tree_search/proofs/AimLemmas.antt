@@ -1,5 +1,5 @@
 -- What a search is for, kept from one vertex to the next.
-use Rattle.std.proofs.Common.{◌≡◌, ◌≢◌, ℕ, zero, suc, ◌+◌, ◌<◌, Bool, true, false, not, ◌&&◌, ◌||◌, ◌==◌, List, length, map, replicate, slice_index, Option, Some, None, inl, inr, refl, sym, ap, ◌∙◌, subst, arith}
+use Rattle.std.proofs.Common.{◌≡◌, ◌≢◌, ℕ, zero, suc, ◌+◌, ◌<◌, Bool, true, false, not, ◌&&◌, ◌||◌, ◌==◌, List, length, map, replicate, slice_index, Option, Some, None, inl, inr, refl, sym, ap, ◌∙◌, subst, arith, Bor}
 use Rattle.std.specs.Prelude.{◌⊎◌}
 use Rattle.std.specs.Str.{bytes_eq}
 use Rattle.std.specs.Cmp.Lexicographic.{slice_cmp, nat_list_cmp_total}
@@ -36,6 +36,17 @@ in_class q i t m = is_number i (first_sent 0 t m q.edges)
 -- what is in a class sends its edge to the triple, and no edge of a lower number
 pub class_first : (q : PatternGraph) (g : Graph) (i : ℕ) (t : Triple) (m : List ℕ) → In (edge_class q g t i) m → IsFirst t m q.edges i
 class_first q g i t m j = first_is 0 i t m q.edges (ap (λ n. is_number n (first_sent 0 t m q.edges)) (omega arith) ∙ (filter_in (in_class q i t) (embeddings q g) m j).1)
+
+-- and gives the triple's target to the head of the edge
+pub class_head : (q : PatternGraph) (g : Graph) (i : ℕ) (t : Triple) (m : List ℕ) → In (edge_class q g t i) m → slice_index m (edge_at q i).head ≡ t.dst
+class_head q g i t m j = ap (λ (s : Triple). s.dst) (sent_is t m (edge_at q i) (class_first q g i t m j).sent)
+
+-- where the vertex is that head, it is the one id that the vertex has to have
+pub target_is : (q : PatternGraph) (aim : Aim) (i : ℕ) (t : Bor Triple) → aim ≡ Edge i t → (e : PatternEdge) → edge_at q i ≡ e → (w : ℕ) → e.head ≡ w
+    → (g : Graph) (m : List ℕ) → In (aimed q g aim) m → slice_index m w ≡ t.now.dst
+target_is q aim i t is e read w here g m j =
+    let at : (edge_at q i).head ≡ w = ap (λ (f : PatternEdge). f.head) read ∙ here in
+    ap (slice_index m) (sym at) ∙ class_head q g i t.now m (subst (λ a. In (aimed q g a) m) is j)
 
 -- what is looked for is an embedding
 pub aimed_embedding : (q : PatternGraph) (g : Graph) (aim : Aim) (m : List ℕ) → In (aimed q g aim) m → In (embeddings q g) m

@@ -4,7 +4,7 @@ use Rattle.std.specs.Prelude.{slice_index}
 use Rattle.std.proofs.Math.Seq.{drop-cons}
 use Rattle.std.specs.List.{IsDistinct, list_any}
 use Rattle.std.specs.Option.{unwrap_or}
-use Rattle.std.proofs.lemmas.Bool.{and_parts, or_right, eqb-true}
+use Rattle.std.proofs.lemmas.Bool.{and_parts, or_left, or_right, eqb-true, eq-eqb}
 use Rattle.std.proofs.lemmas.List.Sorted.{length_permutation}
 use Rattle.flux_model.specs.Costs.{degree}
 use Rattle.flux_model.specs.Exact.{StateRows, row_at, IsExact}
@@ -36,8 +36,17 @@ distinct_filter p (x ∷ xs) d = by (p x) (distinct_filter p xs d.1)
     by true rest = (all_by (λ y. nat_eq x y ≡ false) (filter p xs) (λ y i. by_in (λ z. nat_eq x z ≡ false) xs y d.0 (filter_in p xs y i).0), rest)
     by false rest = rest
 
-listed_in : (x : ℕ) (xs : List ℕ) → list_any (nat_eq x) xs ≡ true → In xs x
+-- an element that some element equals is one of the list
+pub listed_in : (x : ℕ) (xs : List ℕ) → list_any (nat_eq x) xs ≡ true → In xs x
 listed_in x xs h = let r = in_any (nat_eq x) xs h in subst (λ y. In xs y) (sym (eqb-true x r.0 r.2)) r.1
+
+-- one element is there once
+pub one_distinct : (xs : List ℕ) (x : ℕ) → xs ≡ x ∷ [] → IsDistinct nat_eq xs
+unfolding IsDistinct
+one_distinct xs x is = subst (λ l. IsDistinct nat_eq l) (sym is) (tt, tt)
+
+pub one_has : (xs : List ℕ) (x y : ℕ) → xs ≡ x ∷ [] → y ≡ x → list_any (nat_eq y) xs ≡ true
+one_has xs x y is same = ap (λ l. list_any (nat_eq y) l) is ∙ or_left (nat_eq y x) false (eq-eqb y x same)
 
 -- an explicit pair has a row
 pub layer_has : (q : PatternGraph) (t : QueryTree) (d : StateRows) (g : Graph) → IsExact q t g d → (u : ℕ) (layer : List ℕ) → ((v : ℕ) → list_any (nat_eq v) layer ≡ is_some (row_at d u v))

@@ -180,7 +180,7 @@ module _ (q : PatternGraph) (t : QueryTree) (d : StateRows) (g : Graph) (o : Sea
   -- ---- the loop over a row
 
   -- at first the row and the embeddings over its candidates are to be paid
-  pub start_paid : (k : ℕ) → 1 ≤ k → (few : k < length (vertices o)) (p : List (Option ℕ)) (known : IsGiven q t g o k p) (w : ℕ) → w ≡ nth_vertex o k → (v : ℕ) → id_of p (nth_anchor o k) ≡ Some v → (n : ℕ) → n ≤ degree g v → (xs : List ℕ) → IsDistinct nat_eq xs → HasMembers q t d g o ready k few p known xs
+  pub start_paid : (k : ℕ) → 1 ≤ k → (few : k < length (vertices o)) (p : List (Option ℕ)) (known : IsGiven q t g o k p) (w : ℕ) → w ≡ nth_vertex o k → (v : ℕ) → id_of p (nth_anchor o k) ≡ Some v → (n : ℕ) → n ≤ degree g v → (xs : List ℕ) → IsDistinct nat_eq xs → HasMembers q t d g o ready k few p known All xs
       → (length q.edges + 3) * (n + 1) + sum_by (cost_from q t g o (k + 1)) (members_over q g p w xs) ≤ members_cost q t g o k p
   start_paid k some few p known w at v anchor n most xs apart has =
       let split = members_listed q t d g o ready k few p known All xs apart has in
@@ -223,17 +223,17 @@ module _ (q : PatternGraph) (t : QueryTree) (g : Graph) (p : List (Option ℕ)) 
       omega (arith, a, b, d, test_most q t g w x, turn_paid (length q.edges) less more (omega (arith, h)), over_split)
 
   -- a root that is taken
-  pub root_steps : (put : List (Option ℕ)) → put ≡ slice_set now w (Some x) → (s0 s1 s2 s3 first i whole inner : ℕ) → s1 ≡ s0 + 1 → s2 ≤ s1 + test_cost q t g w x → s3 ≤ s2 + inner → length q.edges + 1 + inner ≤ sum_by cost (members_from q g put)
-      → s0 + sum_by cost (members_over q g p w xs) ≤ first + 2 * i + whole
-      → s3 + sum_by cost (members_over q g p w rest) ≤ first + 2 * (i + 1) + whole
-  root_steps put is s0 s1 s2 s3 first i whole inner a b c paid d =
-      omega (arith, a, b, c, paid, d, test_most q t g w x, over_split, over_put put is)
+  pub root_steps : (put : List (Option ℕ)) → put ≡ slice_set now w (Some x) → (s0 s2 s3 first i whole inner : ℕ) → s2 ≤ s0 + test_cost q t g w x → s3 ≤ s2 + inner → length q.edges + 1 + inner ≤ sum_by cost (members_from q g put)
+      → s0 + sum_by cost (members_over q g p w xs) ≤ first + i + whole
+      → s3 + sum_by cost (members_over q g p w rest) ≤ first + (i + 1) + whole
+  root_steps put is s0 s2 s3 first i whole inner b c paid d =
+      omega (arith, b, c, paid, d, test_most q t g w x, over_split, over_put put is)
 
   -- a root that is not
-  pub loose_steps : (s0 s1 s2 first i whole : ℕ) → s1 ≡ s0 + 1 → s2 ≤ s1 + test_cost q t g w x → is_explicit (joined q t g) w x ≡ false
-      → s0 + sum_by cost (members_over q g p w xs) ≤ first + 2 * i + whole
-      → s2 + sum_by cost (members_over q g p w rest) ≤ first + 2 * (i + 1) + whole
-  loose_steps s0 s1 s2 first i whole a b none d = omega (arith, a, b, d, test_least q t g w x none, over_split)
+  pub loose_steps : (s0 s2 first i whole : ℕ) → s2 ≤ s0 + test_cost q t g w x → is_explicit (joined q t g) w x ≡ false
+      → s0 + sum_by cost (members_over q g p w xs) ≤ first + i + whole
+      → s2 + sum_by cost (members_over q g p w rest) ≤ first + (i + 1) + whole
+  loose_steps s0 s2 first i whole b none d = omega (arith, b, d, test_least q t g w x none, over_split)
 
 -- what may not be had is not explicit
 pub not_explicit : (q : PatternGraph) (t : QueryTree) (g : Graph) → MeetsNoDeadEnd q t → (p : List (Option ℕ)) (w x : ℕ) (told : Bool) → told ≡ may_have q t g p w x → told ≡ false → is_explicit (joined q t g) w x ≡ false

@@ -181,22 +181,22 @@ module _ (q : PatternGraph) (t : QueryTree) (g : Graph) (i : ℕ) (s : Triple) (
   cost_open : are_explicit (joined q t g) (edge_at q i) s ≡ true → edge_cost q t g (edge_at q i) s ≡ opened
   cost_open entered = labelled ∙ ap (λ b. cond b opened 2) (and_from _ _ entered two.1)
 
-  module _ (entered : are_explicit (joined q t g) (edge_at q i) s ≡ true) (w x : ℕ) (s0 s1 s2 : ℕ) (states : s1 ≤ s0 + 2) (tests : s2 ≤ s1 + test_cost q t g w x) where
+  module _ (entered : are_explicit (joined q t g) (edge_at q i) s ≡ true) (w x : ℕ) (s1 s2 : ℕ) (tests : s2 ≤ s1 + test_cost q t g w x) where
     split : (e r : ℕ) → (e + 4) * (2 + r) ≡ 2 * e + 8 + (e + 4) * r
     split e r =
         let twice : (e + 4) * 2 ≡ 2 * e + 8 = omega arith in
         mul-add (e + 4) 2 r ∙ ap (λ n. n + (e + 4) * r) twice
 
-    -- a tail that may not have the source is paid for
-    pub refused_steps : s2 ≤ s0 + edge_cost q t g (edge_at q i) s
-    refused_steps = omega (arith, cost_open entered, split (length q.edges) (rows_read q t g (edge_at q i).head s.dst (search_order t (edge_at q i).tail (live_counts g (joined q t g))).places (slice_set (replicate (vertex_count q) 0) (edge_at q i).tail s.src)), states, tests, test_most q t g w x)
+    -- a tail that may not have the source is paid for, beside the two states
+    pub refused_steps : s2 + 2 ≤ s1 + edge_cost q t g (edge_at q i) s
+    refused_steps = omega (arith, cost_open entered, split (length q.edges) (rows_read q t g (edge_at q i).head s.dst (search_order t (edge_at q i).tail (live_counts g (joined q t g))).places (slice_set (replicate (vertex_count q) 0) (edge_at q i).tail s.src)), tests, test_most q t g w x)
 
     -- so is what is searched from it
     pub edge_steps : (o : SearchOrder) → o ≡ search_order t (edge_at q i).tail (live_counts g (joined q t g)) → (b : Bor Triple) → b.now ≡ s → (put : List (Option ℕ)) → put ≡ with_id (replicate (vertex_count q) None) (edge_at q i).tail s.src
-        → (s3 : ℕ) → s3 ≤ s2 + look_from q t g (Edge i b) o 1 (ids_of put) → s3 ≤ s0 + edge_cost q t g (edge_at q i) s
+        → (s3 : ℕ) → s3 ≤ s2 + look_from q t g (Edge i b) o 1 (ids_of put) → s3 + 2 ≤ s1 + edge_cost q t g (edge_at q i) s
     edge_steps o is b of put placed s3 read =
         let given : ids_of put ≡ slice_set (replicate (vertex_count q) 0) (edge_at q i).tail s.src =
         ap ids_of placed ∙ map-set (λ r. unwrap_or r 0) (replicate (vertex_count q) None) (edge_at q i).tail (Some s.src) ∙ ap (λ l. slice_set l (edge_at q i).tail s.src) (no_ids (vertex_count q)) in
         let rest : look_from q t g (Edge i b) o 1 (ids_of put) ≡ (length q.edges + 4) * rows_read q t g (edge_at q i).head s.dst (search_order t (edge_at q i).tail (live_counts g (joined q t g))).places (slice_set (replicate (vertex_count q) 0) (edge_at q i).tail s.src) =
         λ n. (length q.edges + 4) * rows_read q t g (edge_at q i).head (of n).dst (is n).places (given n) in
-        omega (arith, read, rest, cost_open entered, split (length q.edges) (rows_read q t g (edge_at q i).head s.dst (search_order t (edge_at q i).tail (live_counts g (joined q t g))).places (slice_set (replicate (vertex_count q) 0) (edge_at q i).tail s.src)), states, tests, test_most q t g w x)
+        omega (arith, read, rest, cost_open entered, split (length q.edges) (rows_read q t g (edge_at q i).head s.dst (search_order t (edge_at q i).tail (live_counts g (joined q t g))).places (slice_set (replicate (vertex_count q) 0) (edge_at q i).tail s.src)), tests, test_most q t g w x)

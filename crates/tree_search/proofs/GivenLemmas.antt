@@ -34,7 +34,6 @@ use Rattle.tree_search.proofs.GrowthLemmas.{grew_none}
 use Rattle.tree_search.proofs.MemberLemmas.{given_id, members_split}
 use Rattle.tree_search.proofs.EmbeddingLemmas.{edge_has, vertex_of_fits}
 use Rattle.tree_search.proofs.ChosenLemmas.{ends_of_link, explicit_chosen}
-use Rattle.tree_search.proofs.PassLemmas.{member}
 
 -- ---- an id more
 
@@ -287,17 +286,16 @@ module _ (q : PatternGraph) (t : QueryTree) (d : StateRows) (g : Graph) (o : Sea
   pub member_explicit : (m : List ℕ) → is_embedding q g m ≡ true → is_explicit (joined q t g) w (slice_index m w) ≡ true
   member_explicit m is = explicit_chosen q t g ready.belongs m is w (omega (arith, vertex_inside, known.places))
 
-  -- the list has the id that each embedding with the given ids gives to it
-  abbrev pub HasMembers : List ℕ → Type 0
-  HasMembers xs = (m : List ℕ) → is_embedding q g m ≡ true → goes_on p m ≡ true → In xs (slice_index m w)
+  -- the list has the id that each of those looked for with the given ids gives to it
+  abbrev pub HasMembers : Aim → List ℕ → Type 0
+  HasMembers aim xs = (m : List ℕ) → In (members_at q g aim p) m → In xs (slice_index m w)
 
   -- what goes on is split by the ids of a list that has them all
-  pub members_listed : (aim : Aim) (xs : List ℕ) → IsDistinct nat_eq xs → HasMembers xs → IsPermutation (members_over_at q g aim p w xs) (members_at q g aim p)
-  members_listed aim xs apart has =
-      members_split q g aim p w vertex_inside vertex_free xs apart (λ m i. let r = member q g aim p m i in has m r.0 r.1)
+  pub members_listed : (aim : Aim) (xs : List ℕ) → IsDistinct nat_eq xs → HasMembers aim xs → IsPermutation (members_over_at q g aim p w xs) (members_at q g aim p)
+  members_listed aim xs apart has = members_split q g aim p w vertex_inside vertex_free xs apart has
 
   -- before the first candidate all that goes on is to come
-  pub candidates_start : (aim : Aim) (xs : List ℕ) → IsDistinct nat_eq xs → HasMembers xs → (old : List (List ℕ)) → GrewUpTo old old (members_over_at q g aim p w xs) (members_at q g aim p)
+  pub candidates_start : (aim : Aim) (xs : List ℕ) → IsDistinct nat_eq xs → HasMembers aim xs → (old : List (List ℕ)) → GrewUpTo old old (members_over_at q g aim p w xs) (members_at q g aim p)
   candidates_start aim xs apart has old = grew_none old (members_over_at q g aim p w xs) (members_at q g aim p) (members_listed aim xs apart has)
 
   -- ---- the start

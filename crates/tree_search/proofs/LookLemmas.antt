@@ -1,24 +1,25 @@
 -- What a search reads at most, whatever it meets.
-use Rattle.std.proofs.Common.{◌≡◌, ℕ, zero, suc, ◌+◌, ◌-◌, ◌*◌, ◌<◌, ◌≤◌, Bool, true, false, not, cond, ◌||◌, ◌==◌, nat_eq, List, [], ◌∷◌, drop, length, filter, get_or, slice_index, Option, Some, None, inl, inr, refl, sym, ap, ◌∙◌, subst, arith}
+use Rattle.std.proofs.Common.{◌≡◌, ℕ, zero, suc, ◌+◌, ◌-◌, ◌*◌, ◌<◌, ◌≤◌, Bool, true, false, not, cond, ◌||◌, ◌==◌, nat_eq, List, [], ◌∷◌, drop, length, filter, get_or, slice_index, Option, Some, None, is_some, inl, inr, refl, sym, ap, ◌∙◌, subst, arith}
 use Rattle.std.specs.Prelude.{◌⊎◌, slice_set}
 use Rattle.std.specs.Option.{unwrap_or}
-use Rattle.std.specs.List.{IsDistinct, sum_by}
+use Rattle.std.specs.List.{IsDistinct, list_any, sum_by}
 use Rattle.std.proofs.Math.Nat.{mul-add}
 use Rattle.std.proofs.Math.Seq.{drop-cons}
-use Rattle.std.proofs.lemmas.Bool.{and_parts, and_from, or_left, eqb-true, eqb-false, ne_eqb, both_ways}
+use Rattle.std.proofs.lemmas.Bool.{and_parts, and_from, or_left, eqb-true, eq-eqb, eqb-false, ne_eqb, both_ways}
 use Rattle.std.proofs.lemmas.List.{length-map, get_or-map, map-set}
 use Rattle.std.proofs.lemmas.List.Sums.{sum_by-cons}
 use Rattle.flux_model.specs.Costs.{degree, is_joined, rows_read}
-use Rattle.flux_model.specs.Exact.{StateRows}
+use Rattle.flux_model.specs.Exact.{StateRows, row_at, IsExact}
 use Rattle.flux_model.specs.Graph.{Graph, ids, has_triple}
 use Rattle.flux_model.specs.Order.{Place, SearchOrder}
 use Rattle.flux_model.specs.Partial.{id_of}
 use Rattle.flux_model.specs.Pattern.{PatternGraph, vertex_count, fits}
-use Rattle.flux_model.specs.States.{joined, reaches, extends}
+use Rattle.flux_model.specs.States.{joined, reaches, reaches_within, extends}
+use Rattle.flux_model.specs.declared.graph.Vertex.{Vertex}
 use Rattle.flux_model.specs.Tree.{QueryTree, edge_at, link_at, is_child}
 use Rattle.flux_model.specs.declared.tree.TreeLink.{TreeLink}
 use Rattle.flux_model.specs.Members.{In}
-use Rattle.flux_model.proofs.MemberLemmas.{in_filter}
+use Rattle.flux_model.proofs.MemberLemmas.{any_in, in_filter}
 use Rattle.match_order.specs.Whole.{vertices}
 use Rattle.match_order.proofs.CallerLemmas.{HangsFrom, vertex_within, anchor_joined, child_hangs}
 use Rattle.query_tree.proofs.CallerLemmas.{is_child_of}
@@ -73,6 +74,39 @@ sum_among cost keep (x ∷ xs) ys apart among = by (keep x) refl (sum_among cost
         let others = rest (filter (λ y. not (y == x)) ys) apart.1 (λ z i k. in_filter (λ y. not (y == x)) ys z (among z (inr i) k) (ap not (ne_eqb z x (λ same. eqb-false x z (by_in (λ y. nat_eq x y ≡ false) xs z apart.0 i) (sym same))))) in
         omega (arith, others, sum_taken cost ys x (among x (inl refl) e), sum_by-cons cost x (filter keep xs))
     by false e rest = rest ys apart.1 (λ z i k. among z (inr i) k)
+
+-- a list without repeats is no longer than one that has its elements
+distinct_few : (xs ys : List ℕ) → IsDistinct nat_eq xs → ((z : ℕ) → In xs z → In ys z) → length xs ≤ length ys
+distinct_few xs ys apart among = omega (arith, sum_among (λ _. 1) (λ _. true) xs ys apart (λ z i keep. among z i), all xs, ones xs, ones ys)
+  where
+    ones : (zs : List ℕ) → sum_by (λ _. 1) zs ≡ length zs
+    ones [] = refl
+    ones (z ∷ zs) = omega (arith, sum_by-cons (λ _. 1) z zs, ones zs)
+
+    all : (zs : List ℕ) → sum_by (λ _. 1) (filter (λ _. true) zs) ≡ sum_by (λ _. 1) zs
+    all [] = refl
+    all (z ∷ zs) = omega (arith, sum_by-cons (λ _. 1) z zs, sum_by-cons (λ _. 1) z (filter (λ _. true) zs), all zs)
+
+-- a layer of the index is no longer than there are vertices
+pub layer_few : (q : PatternGraph) (t : QueryTree) (d : StateRows) (g : Graph) → IsExact q t g d → (u : ℕ) (layer : List ℕ) → IsDistinct nat_eq layer
+    → ((v : ℕ) → list_any (nat_eq v) layer ≡ is_some (row_at d u v)) → length layer ≤ length g.vertices
+layer_few q t d g exact u layer once rows =
+    let few = distinct_few layer (ids g) once (λ v i. vertex_listed g v (vertex_of_fits q g u v (fit v (reached v (reaches (joined q t g) u v) refl i)))) in
+    omega (arith, few, length-map g.vertices (λ (v : Vertex). v.id))
+  where
+    reached : (v : ℕ) (b : Bool) → reaches (joined q t g) u v ≡ b → In layer v → reaches (joined q t g) u v ≡ true
+    reached v true is i = is
+    reached v false is i =
+        let has : list_any (nat_eq v) layer ≡ true = any_in (nat_eq v) layer v i (eq-eqb v v refl) in
+        let none : is_some (row_at d u v) ≡ false = ap is_some (exact.rows u v) ∙ rw is refl in
+        absurd (both_ways (is_some (row_at d u v)) none (sym (rows v) ∙ has))
+
+    fits_of : (n v : ℕ) → reaches_within n (joined q t g) u v ≡ true → (joined q t g).fits u v ≡ true
+    fits_of zero v h = absurd (let bad : false ≡ true = h in cc)
+    fits_of (suc n) v h = (and_parts _ _ h).0
+
+    fit : (v : ℕ) → reaches (joined q t g) u v ≡ true → fits q u g v ≡ true
+    fit v h = fits_of (length t.links) v h
 
 sum_scaled : (e : ℕ) (f : ℕ → ℕ) (xs : List ℕ) → sum_by (λ z. e * f z) xs ≡ e * sum_by f xs
 sum_scaled e f [] = omega arith

@@ -1,16 +1,12 @@
 -- One turn of the search: a candidate for the vertex at place k.
-use Rattle.std.proofs.Common.{◌≡◌, ℕ, suc, ◌+◌, ◌<◌, ◌≤◌, Bool, true, false, List, [], ◌∷◌, ◌++◌, drop, drop_of_length-le, length, replicate, Option, Some, None, inl, inr, refl, sym, ap, ◌∙◌, subst, arith, nat_eq}
+use Rattle.std.proofs.Common.{◌≡◌, ℕ, suc, ◌+◌, ◌<◌, ◌≤◌, Bool, true, false, List, ◌∷◌, ◌++◌, drop, drop_of_length-le, length, replicate, Option, Some, None, is_some, inl, inr, refl, sym, ap, ◌∙◌, subst, arith, nat_eq}
 use Rattle.std.specs.Prelude.{slice_get, slice_set, slice_index, IsPermutation, ◌==◌}
-use Rattle.std.proofs.lemmas.List.{length-map}
-use Rattle.std.specs.Cmp.{nat_eq_equiv}
-use Rattle.std.specs.List.{IsDistinct}
+use Rattle.std.specs.List.{IsDistinct, list_any}
 use Rattle.std.proofs.lemmas.Bool.{and_parts, eqb-true}
-use Rattle.std.proofs.lemmas.List.Sorted.{IsPermutation-sym, length_permutation}
-use Rattle.std.proofs.lemmas.Map.Keys.{IsDistinct-IsPermutation}
 use Rattle.std.proofs.lemmas.Option.{get_or_from_slice_get, slice_get_within}
 use Rattle.std.proofs.Math.Seq.{drop-cons}
 use Rattle.flux_model.specs.Embedding.{embeddings}
-use Rattle.flux_model.specs.Exact.{StateRows}
+use Rattle.flux_model.specs.Exact.{StateRows, row_at}
 use Rattle.flux_model.specs.Graph.{Graph, ids, has_triple, has_vertex}
 use Rattle.flux_model.specs.Order.{SearchOrder}
 use Rattle.flux_model.specs.Partial.{id_of, with_id}
@@ -18,7 +14,7 @@ use Rattle.flux_model.specs.Pattern.{PatternGraph, vertex_count}
 use Rattle.flux_model.specs.Tree.{QueryTree}
 use Rattle.flux_model.specs.declared.graph.Vertex.{Vertex}
 use Rattle.flux_model.specs.Members.{In}
-use Rattle.flux_model.proofs.MemberLemmas.{in_any, in_mapped, in_permutation}
+use Rattle.flux_model.proofs.MemberLemmas.{in_any, in_mapped}
 use Rattle.match_order.specs.Whole.{vertices}
 use Rattle.graph_rows.specs.Directions.{triple_of}
 use Rattle.graph_rows.specs.declared.direction.Direction.{Direction}
@@ -31,8 +27,8 @@ use Rattle.tree_search.specs.declared.aim.Aim.TheVariants.{All}
 use Rattle.tree_search.proofs.AimLemmas.{aimed_with}
 use Rattle.tree_search.proofs.GrowthLemmas.{grew_none, grew_all, grew_turn, grew_skip, grew_stop}
 use Rattle.tree_search.proofs.MemberLemmas.{members_split}
-use Rattle.tree_search.proofs.EmbeddingLemmas.{id_fits, vertex_of_fits}
-use Rattle.graph_rows.proofs.SumLemmas.{distinct_ids}
+use Rattle.tree_search.proofs.CandidateLemmas.{listed_in, layer_has}
+use Rattle.tree_search.proofs.ChosenLemmas.{explicit_chosen}
 use Rattle.tree_search.proofs.PassLemmas.{member, dead_end}
 use Rattle.tree_search.proofs.GivenLemmas.{cleared, given_none, vertex_inside, vertex_free, vertex_open, given_first, given_next, candidates_start, HasMembers}
 use Rattle.tree_search.proofs.WholeLemmas.{all_from_none}
@@ -99,7 +95,7 @@ module _ (q : PatternGraph) (t : QueryTree) (d : StateRows) (g : Graph) (o : Sea
       (aimed_with q p (nth_vertex o k) x (vertex_inside q t d g o ready k few p known) aim known_aim (vertex_free q t d g o ready k few p known) (taken aim x told may passes).0)
 
   -- before the first candidate all is to come
-  pub turns_start : (aim : Aim) (xs : List ℕ) → IsDistinct nat_eq xs → HasMembers q t d g o ready k few p known xs → (old : List (List ℕ)) → GrewUpTo old old (members_over_at q g aim p w xs) (members_at q g aim p)
+  pub turns_start : (aim : Aim) (xs : List ℕ) → IsDistinct nat_eq xs → HasMembers q t d g o ready k few p known aim xs → (old : List (List ℕ)) → GrewUpTo old old (members_over_at q g aim p w xs) (members_at q g aim p)
   turns_start aim xs apart has old =
       subst (λ u. GrewUpTo old old (members_over_at q g aim p u xs) (members_at q g aim p)) (sym at) (candidates_start q t d g o ready k few p known aim xs apart has old)
 
@@ -116,7 +112,7 @@ module _ (q : PatternGraph) (t : QueryTree) (d : StateRows) (g : Graph) (o : Sea
 pub others_stand : (test : ℕ → Bool) (x : ℕ) (xs rest : List ℕ) → xs ≡ x ∷ rest → ((y : ℕ) → In xs y → test y ≡ true) → (y : ℕ) → In rest y → test y ≡ true
 others_stand test x xs rest ends stand y i = stand y (subst (λ l. In l y) (sym ends) (inr i))
 
--- ---- the vertices of the graph as candidates of the root
+-- ---- the root's rows in the index as its candidates
 
 -- a vertex of the graph is among its ids
 pub vertex_listed : (g : Graph) (v : ℕ) → has_vertex g v ≡ true → In (ids g) v
@@ -131,12 +127,6 @@ next_vertex xs i x e =
     drop-cons xs i 0 (slice_get_within xs i x e)
     ∙ (λ j. get_or_from_slice_get xs i x 0 e j ∷ drop (suc i) xs)
     ∙ ap (λ n. x ∷ drop n xs) next
-
--- in the end none is left
-pub none_listed : (g : Graph) (listed : List ℕ) (i n : ℕ) → IsPermutation listed (ids g) → n ≡ length g.vertices → n ≤ i → drop i listed ≡ []
-none_listed g listed i n all count end =
-    let size : length (ids g) ≡ length listed = length_permutation listed (ids g) all in
-    drop_of_length-le listed (omega (arith, size, length-map g.vertices (λ (v : Vertex). v.id), count, end))
 
 -- of the first vertex of the order
 module _ (q : PatternGraph) (t : QueryTree) (d : StateRows) (g : Graph) (o : SearchOrder) (ready : IsReady q t d g o) (w : ℕ) (root : w ≡ t.root) (start : o.start ≡ t.root) where
@@ -153,16 +143,15 @@ module _ (q : PatternGraph) (t : QueryTree) (d : StateRows) (g : Graph) (o : Sea
   within = omega (arith, root, ready.belongs.tree.root, ready.belongs.vertices)
 
   -- the embeddings are split by the id of the root
-  pub root_split : (listed : List ℕ) → IsPermutation listed (ids g) → IsPermutation (members_over q g none w listed) (embeddings q g)
-  root_split listed all =
-      let split = members_split q g All none w (inside q t d g o ready 0 some none (given_none q t g o) w at_first none refl) (free q t d g o ready 0 some none (given_none q t g o) w at_first none refl) listed
-      (IsDistinct-IsPermutation nat_eq nat_eq_equiv.symm (ids g) listed (IsPermutation-sym listed (ids g) all) (distinct_ids g ready.graph))
-      (λ m i. in_permutation listed (ids g) all (slice_index m w) (vertex_listed g (slice_index m w) (vertex_of_fits q g w (slice_index m w) (id_fits q g m (member q g All none m i).0 w within)))) in
+  pub root_split : (listed : List ℕ) → IsDistinct nat_eq listed → ((v : ℕ) → list_any (nat_eq v) listed ≡ is_some (row_at d w v)) → IsPermutation (members_over q g none w listed) (embeddings q g)
+  root_split listed once rows =
+      let split = members_split q g All none w (inside q t d g o ready 0 some none (given_none q t g o) w at_first none refl) (free q t d g o ready 0 some none (given_none q t g o) w at_first none refl) listed once
+      (λ m i. listed_in (slice_index m w) listed (layer_has q t d g ready.exact w listed rows (slice_index m w) (explicit_chosen q t g ready.belongs m (member q g All none m i).0 w (omega (arith, within, ready.belongs.vertices))))) in
       subst (λ l. IsPermutation (members_over q g none w listed) l) (all_from_none q g) split
 
   -- before the first vertex all embeddings are to come
-  pub root_start : (listed : List ℕ) → IsPermutation listed (ids g) → (old : List (List ℕ)) → GrewUpTo old old (members_over q g none w listed) (embeddings q g)
-  root_start listed all old = grew_none old (members_over q g none w listed) (embeddings q g) (root_split listed all)
+  pub root_start : (listed : List ℕ) → IsDistinct nat_eq listed → ((v : ℕ) → list_any (nat_eq v) listed ≡ is_some (row_at d w v)) → (old : List (List ℕ)) → GrewUpTo old old (members_over q g none w listed) (embeddings q g)
+  root_start listed once rows old = grew_none old (members_over q g none w listed) (embeddings q g) (root_split listed once rows)
 
   module _ (now : List (Option ℕ)) (same : now ≡ none) where
     -- the root has no id yet
@@ -191,6 +180,6 @@ module _ (q : PatternGraph) (t : QueryTree) (d : StateRows) (g : Graph) (o : Sea
       root_skip = turn_skip q t d g o ready 0 some none (given_none q t g o) w at_first now same All x (drop i listed) (drop (i + 1) listed) (next_vertex listed i x here) old mid (embeddings q g) grew
 
   -- in the end none is left
-  pub root_end : (listed : List ℕ) (i n : ℕ) → IsPermutation listed (ids g) → n ≡ length g.vertices → n ≤ i → (old new : List (List ℕ)) → GrewUpTo old new (members_over q g none w (drop i listed)) (embeddings q g) → GrewByAll old new (embeddings q g)
-  root_end listed i n all count end old new grew =
-      grew_all old new (embeddings q g) (subst (λ l. GrewUpTo old new (members_over q g none w l) (embeddings q g)) (none_listed g listed i n all count end) grew)
+  pub root_end : (listed : List ℕ) (i : ℕ) → length listed ≤ i → (old new : List (List ℕ)) → GrewUpTo old new (members_over q g none w (drop i listed)) (embeddings q g) → GrewByAll old new (embeddings q g)
+  root_end listed i end old new grew =
+      grew_all old new (embeddings q g) (subst (λ l. GrewUpTo old new (members_over q g none w l) (embeddings q g)) (drop_of_length-le listed end) grew)

@@ -21,7 +21,8 @@ pub struct Candidates<'a> {
     pub row: GraphRow<'a>,
     /// A shorter row of another neighbour's id, if there is one.
     pub shortest: Shortest<'a>,
-    /// The vertices of the graph that have a row in the index.
+    /// Ids among which each that is looked for is: the vertices of the graph that have a row in the index, or the one that is
+    /// looked for.
     pub layer: &'a [u32],
 }
 

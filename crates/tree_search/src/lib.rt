@@ -3,8 +3,8 @@
 //!
 //! A search gives the vertices of a pattern ids in an order in which each stands next to one before it in the pattern's tree.
 //! A candidate for a vertex comes from the row of that neighbour's id, from a shorter row of another neighbour's, or from the
-//! index where it has fewer, and is taken where its pair is explicit and where the edges that the tree leaves out, the mode and
-//! the class allow it:
+//! index where it has fewer; the head of an edge that is sent to a triple has one alone. It is taken where its pair is explicit
+//! and where the edges that the tree leaves out, the mode and the class allow it:
 //!
 //! - `found`: what takes the embeddings, one after another.
 //! - `aim`: which embeddings a search is for.

@@ -1,9 +1,8 @@
 //! `Search`: what is searched, and how it goes on from the ids that the first vertices of its order have.
 ghost use Rattle.std.specs.Prelude.{◌≡◌, ◌≤◌, ◌+◌, ◌<◌, ◌++◌, ℕ, [], ◌∷◌, Some, None, IsTrue, IsSome, OnOk, OnErr};
-ghost use Rattle.std.specs.Prelude.{length, slice_get, is_some, nat_eq};
-ghost use Rattle.std.specs.List.{IsDistinct, list_any};
+ghost use Rattle.std.specs.Prelude.{length, slice_get, nat_eq};
+ghost use Rattle.std.specs.List.{IsDistinct};
 ghost use Rattle.flux_model.specs.Costs.{degree};
-ghost use Rattle.flux_model.specs.Exact.{row_at};
 ghost use Rattle.flux_model.specs.Order.{are_neighbours};
 ghost use Rattle.flux_model.specs.Pattern.{vertex_count};
 ghost use Rattle.flux_model.specs.Tree.{BelongsTo, link_at};
@@ -11,7 +10,8 @@ ghost use Rattle.graph_traits.specs.Numbers.{IsNumberIn};
 ghost use Rattle.match_order.specs.Whole.{vertices};
 ghost use Rattle.nontree_test.specs.Numbered.{AreNumbersOf};
 ghost use Rattle.tree_search.specs.Aim.{IsAim, IsAimed};
-ghost use Rattle.tree_search.specs.AimedMembers.{members_at, may_take};
+ghost use Rattle.tree_search.specs.declared.aim.Aim.TheVariants.{All};
+ghost use Rattle.tree_search.specs.AimedMembers.{members_at, may_take, HasEachId};
 ghost use Rattle.tree_search.specs.CandidatesLeft.{walked};
 ghost use Rattle.tree_search.specs.Given.{IsReady, IsGiven, IsRowAt, nth_vertex, may_have, edge_of, edge_between};
 ghost use Rattle.tree_search.specs.LookCost.{look_from};
@@ -19,7 +19,7 @@ ghost use Rattle.tree_search.specs.Members.{ids_of, GrewByAll, GrewBySome};
 ghost use Rattle.tree_search.specs.SearchCosts.{MeetsNoDeadEnd, test_cost, members_cost};
 ghost use Rattle.tree_search.specs.Ways.{IsWay, turns};
 
-use crate::aim::{Aim, keeps_aim};
+use crate::aim::{Aim, keeps_aim, target};
 use crate::candidates::Candidates;
 use crate::explicit_pairs::is_explicit;
 use crate::found::Found;
@@ -32,6 +32,7 @@ use match_order::SearchOrder;
 use nontree_test::{free, joins};
 use query_tree::QueryTree;
 use std::alloc::AllocError;
+use std::slice;
 
 /// A pattern has at most so many vertices.
 const MOST: usize = 32;
@@ -71,7 +72,7 @@ pub fn extend<G: ReadGraph<L>, F: Found, L: Ledger>(
     ensures found { OnOk result (GrewByAll (F.list found.old) (F.list found.new)
         (members_at search.now.pattern.now (G.graph search.now.graph.now) search.now.aim partial.old)) }
     ensures steps { OnOk result (MeetsNoDeadEnd search.now.pattern.now search.now.tree.now
-        → search.now.order.start ≡ search.now.tree.now.root
+        → search.now.order.start ≡ search.now.tree.now.root → search.now.aim ≡ All
         → steps.new ≤ steps.old
         + members_cost search.now.pattern.now search.now.tree.now (G.graph search.now.graph.now) search.now.order k partial.old) }
     ensures look { OnOk result (steps.new ≤ steps.old
@@ -109,6 +110,7 @@ fn candidates_at<'a, G: HoldGraph>(
     requires some { 1 ≤ k }
     requires few { k < length (vertices search.now.order) }
     requires given { IsGiven search.now.pattern.now search.now.tree.now (G.graph search.now.graph.now) search.now.order k partial.now }
+    requires aim { IsAim search.now.pattern.now search.now.aim }
     ensures row { IsRowAt search.now.pattern.now search.now.tree.now search.now.order k partial.now
         result.row.vertex result.row.direction result.row.label.now }
     ensures number { IsNumberIn (G.label_text search.now.graph.now) (G.graph search.now.graph.now)
@@ -118,14 +120,37 @@ fn candidates_at<'a, G: HoldGraph>(
     ensures short { turns (G.graph search.now.graph.now) (walked result) ≤ degree (G.graph search.now.graph.now) result.row.vertex }
     ensures counted { result.shortest.turns ≡ turns (G.graph search.now.graph.now) (walked result) }
     ensures once { IsDistinct nat_eq result.layer.now }
-    ensures rows { (v : ℕ) → list_any (nat_eq v) result.layer.now ≡ is_some (row_at search.now.dcg.now (nth_vertex search.now.order k) v) }
+    ensures each { HasEachId search.now.pattern.now (G.graph search.now.graph.now) search.now.aim partial.now
+        (nth_vertex search.now.order k) result.layer.now }
 {
     let row = row_to(search, k, partial);
     let shortest = shortest_row(search, k, partial, &row);
     Candidates {
         row,
         shortest,
-        layer: search.dcg.row_vertices(search.order.vertex(k)),
+        layer: listed(search, k, partial),
+    }
+}
+
+/// Ids among which is that of the vertex at place `k` in each embedding that is aimed at: the one that it has to have, or the
+/// vertices of the graph that have a row in the index.
+fn listed<'a, G: HoldGraph>(
+    search: &'a Search<'_, '_, G>,
+    k: usize,
+    _partial: &Partial,
+) -> &'a [u32]
+    requires ready { IsReady search.now.pattern.now search.now.tree.now search.now.dcg.now (G.graph search.now.graph.now) search.now.order }
+    requires few { k < length (vertices search.now.order) }
+    requires given { IsGiven search.now.pattern.now search.now.tree.now (G.graph search.now.graph.now) search.now.order k _partial.now }
+    requires aim { IsAim search.now.pattern.now search.now.aim }
+    ensures once { IsDistinct nat_eq result.now }
+    ensures each { HasEachId search.now.pattern.now (G.graph search.now.graph.now) search.now.aim _partial.now
+        (nth_vertex search.now.order k) result.now }
+{
+    let w = search.order.vertex(k);
+    match target(search.pattern, search.aim, w) {
+        Some(id) => slice::from_ref(id),
+        None => search.dcg.row_vertices(w),
     }
 }
 

@@ -1,5 +1,5 @@
 //! Where a search starts: `all` at the root, and `at_edge` at the tail of an edge that is sent to a triple.
-ghost use Rattle.std.specs.Prelude.{◌≡◌, ◌≤◌, ◌+◌, ◌<◌, OnOk, OnErr, length};
+ghost use Rattle.std.specs.Prelude.{◌≡◌, ◌≤◌, ◌+◌, ◌<◌, true, OnOk, OnErr, length};
 ghost use Rattle.flux_model.specs.Classes.{edge_class};
 ghost use Rattle.flux_model.specs.Costs.{no_dead_end_cost, edge_cost, are_explicit, may_be_sent};
 ghost use Rattle.flux_model.specs.Embedding.{embeddings};
@@ -41,7 +41,8 @@ pub fn all<G: ReadGraph<L>, F: Found, L: Ledger>(
     ensures steps { OnOk result (MeetsNoDeadEnd pattern.now tree.now
         → steps.new ≤ steps.old + no_dead_end_cost pattern.now tree.now (G.graph graph.now)) }
 {
-    let count = graph.vertex_count();
+    // For the proof: the graph is one.
+    let _count = graph.vertex_count();
     if is_barren(pattern, dcg) {
         return Ok(());
     }
@@ -56,8 +57,9 @@ pub fn all<G: ReadGraph<L>, F: Found, L: Ledger>(
         numbers: label_numbers(pattern, graph),
     };
     let mut partial = Partial::new(pattern.vertex_count());
-    for i in 0..count {
-        let v = graph.vertex_at(i, steps);
+    let roots = dcg.row_vertices(root);
+    for i in 0..roots.len() {
+        let v = roots[i];
         if may_have(&search, root, v, &partial, steps) {
             partial.put(root, v);
             extend(&search, 1, &mut partial, found, steps)?;
@@ -105,6 +107,36 @@ pub fn at_edge<G: ReadGraph<L>, F: Found, L: Ledger>(
     if !is_entered(pattern, tree, dcg, graph, edge, triple, steps) {
         return Ok(());
     }
+    search_from(pattern, tree, dcg, graph, number, triple, found, steps)
+}
+
+/// `at_edge` where the edge may be sent to the triple, and the pairs of their ends are explicit. What it needs of room stands
+/// here, so that a call that goes no further does not clear it.
+fn search_from<G: ReadGraph<L>, F: Found, L: Ledger>(
+    pattern: &Pattern,
+    tree: &QueryTree,
+    dcg: &Dcg,
+    graph: &G,
+    number: usize,
+    triple: &Triple,
+    found: &mut F,
+    steps: &mut Steps<L>,
+) -> Result<(), AllocError>
+    requires belongs { BelongsTo pattern.now tree.now }
+    requires exact { IsExact pattern.now tree.now (G.graph graph.now) dcg.now }
+    requires edge { number < length pattern.now.edges }
+    requires sent { may_be_sent (edge_at pattern.now number) triple.now ≡ true }
+    requires entered { are_explicit (joined pattern.now tree.now (G.graph graph.now)) (edge_at pattern.now number) triple.now ≡ true }
+    ensures found { OnOk result (GrewByAll (F.list found.old) (F.list found.new)
+        (edge_class pattern.now (G.graph graph.now) triple.now number)) }
+    ensures some { OnErr result (GrewBySome (F.list found.old) (F.list found.new)
+        (edge_class pattern.now (G.graph graph.now) triple.now number)) }
+    ensures steps { OnOk result (steps.new + 2 ≤ steps.old
+        + edge_cost pattern.now tree.now (G.graph graph.now) (edge_at pattern.now number) triple.now) }
+{
+    // For the proof: the graph is one.
+    let _count = graph.vertex_count();
+    let edge = pattern.edge(number);
     let tail = edge.tail;
     let search = Search {
         pattern,

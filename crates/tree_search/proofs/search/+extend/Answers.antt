@@ -4,7 +4,7 @@ use Rattle.flux_model.specs.Graph.{has_triple}
 use Rattle.match_order.specs.Whole.{vertices}
 use Rattle.graph_rows.specs.Directions.{triple_of}
 use Rattle.tree_search.specs.CandidatesLeft.{left, reads}
-use Rattle.tree_search.proofs.CandidateLemmas.{layer_has, start_apart, start_has, start_stands, start_few}
+use Rattle.tree_search.proofs.CandidateLemmas.{start_apart, start_has, start_stands, start_few}
 use Rattle.flux_model.specs.Members.{In}
 use Rattle.tree_search.specs.Given.{nth_vertex}
 use Rattle.tree_search.specs.LookCost.{look_from, look_over, goes_next}
@@ -13,7 +13,9 @@ use Rattle.tree_search.specs.AimedMembers.{members_at, may_take}
 use Rattle.tree_search.specs.Members.{ids_of}
 use Rattle.tree_search.proofs.AimLemmas.{aimed_is}
 use Rattle.tree_search.proofs.GrowthLemmas.{grew_one, grew_by_none, any_err}
-use Rattle.tree_search.proofs.GivenLemmas.{member_explicit, member_in_row, HasMembers}
+use Rattle.tree_search.proofs.GivenLemmas.{member_in_row, HasMembers}
+use Rattle.tree_search.proofs.PassLemmas.{member}
+use Rattle.tree_search.specs.declared.aim.Aim.TheVariants.{All}
 use Rattle.tree_search.proofs.WholeLemmas.{one_member}
 use Rattle.tree_search.proofs.TurnLemmas.{turn_open, turn_back, turn_found, turn_stop, turn_skip, turn_given, turn_aimed, turns_start, others_stand}
 use Rattle.tree_search.specs.SearchCosts.{cost_from, members_cost}
@@ -58,19 +60,22 @@ loop-x-init g t c =
     let few : c.args.k < length (vertices s.order) = omega (arith, c.requires.few, c.if-k-len.false, c.len.ensures) in
     let most = start_few outs ins graph candidates c.candidates_at-candidates.ensures.short at begun in
     let apart = start_apart outs ins graph candidates c.requires.ready.graph at begun c.candidates_at-candidates.ensures.once in
-    let has : HasMembers s.pattern.now s.tree.now d graph s.order c.requires.ready c.args.k few c.args.partial.now c.requires.given xs =
-    λ m is goes.
+    let has : HasMembers s.pattern.now s.tree.now d graph s.order c.requires.ready c.args.k few c.args.partial.now c.requires.given s.aim xs =
+    λ m i.
+    (let is = member s.pattern.now graph s.aim c.args.partial.now m i in
     start_has outs ins graph candidates at begun (slice_index m (nth_vertex s.order c.args.k))
-    (layer_has s.pattern.now s.tree.now d graph c.requires.ready.exact (nth_vertex s.order c.args.k) candidates.layer.now c.candidates_at-candidates.ensures.rows (slice_index m (nth_vertex s.order c.args.k)) (member_explicit s.pattern.now s.tree.now d graph s.order c.requires.ready c.args.k few c.args.partial.now c.requires.given m is))
-    (member_in_row s.pattern.now s.tree.now d graph s.order c.requires.ready c.args.k few c.args.partial.now c.requires.given c.requires.some r.vertex r.direction r.label.now c.candidates_at-candidates.ensures.row m is goes)
-    (c.candidates_at-candidates.ensures.way.leads m is goes) in
+    (c.candidates_at-candidates.ensures.each m i)
+    (member_in_row s.pattern.now s.tree.now d graph s.order c.requires.ready c.args.k few c.args.partial.now c.requires.given c.requires.some r.vertex r.direction r.label.now c.candidates_at-candidates.ensures.row m is.0 is.1)
+    (c.candidates_at-candidates.ensures.way.leads m is.0 is.1)) in
     record {
       place = c.first-at.ensures.place;
       partial = refl;
       stand = start_stands outs ins graph candidates at begun;
       found = turns_start s.pattern.now s.tree.now s.dcg.now graph s.order c.requires.ready c.args.k few c.args.partial.now c.requires.given c.vertex-w.result c.vertex-w.ensures c.args.partial.now refl s.aim xs apart has (g.F.Found.list c.args.found.now);
-      steps = λ live start.
-          (let paid = start_paid s.pattern.now s.tree.now s.dcg.now graph s.order c.requires.ready start live c.args.k c.requires.some few c.args.partial.now c.requires.given c.vertex-w.result c.vertex-w.ensures r.vertex c.candidates_at-candidates.ensures.row.anchor n most xs apart has in
+      steps = λ live start all.
+          (let every : HasMembers s.pattern.now s.tree.now d graph s.order c.requires.ready c.args.k few c.args.partial.now c.requires.given All xs =
+          subst (λ aim. HasMembers s.pattern.now s.tree.now d graph s.order c.requires.ready c.args.k few c.args.partial.now c.requires.given aim xs) all has in
+          let paid = start_paid s.pattern.now s.tree.now s.dcg.now graph s.order c.requires.ready start live c.args.k c.requires.some few c.args.partial.now c.requires.given c.vertex-w.result c.vertex-w.ensures r.vertex c.candidates_at-candidates.ensures.row.anchor n most xs apart every in
           omega (arith, paid));
       look = (let started = look_start s.pattern.now s.tree.now s.dcg.now graph s.order c.requires.ready s.aim c.args.k c.requires.some few c.args.partial.now r.vertex r.direction r.label.now c.candidates_at-candidates.ensures.row n most xs apart c.vertex-w.result c.vertex-w.ensures in omega (arith, started));
     }
@@ -125,8 +130,8 @@ loop-x-preserved-then-may_take g t c =
       partial = turn_back s.pattern.now s.tree.now s.dcg.now graph s.order c.requires.ready c.args.k few c.args.partial.now c.requires.given c.vertex-w.result c.vertex-w.ensures c.loop-x.partial c.loop-x.invariant.partial c.in-Some.x c.put.new.self c.extend.new.partial c.clear.new.self c.put.ensures c.in_ok-extend.ensures.partial c.clear.ensures;
       stand = others_stand (λ y. has_triple graph (triple_of r.direction r.vertex r.label.now y)) c.in-Some.x (ends c.loop-x.at) (ends c.in-Some.next) c.in-Some.ensures.ends c.loop-x.invariant.stand;
       found = turn_found s.pattern.now s.tree.now s.dcg.now graph s.order c.requires.ready c.args.k few c.args.partial.now c.requires.given c.vertex-w.result c.vertex-w.ensures c.loop-x.partial c.loop-x.invariant.partial s.aim c.in-Some.x (ends c.loop-x.at) (ends c.in-Some.next) c.in-Some.ensures.ends (list c.args.found.now) (list c.loop-x.found) (members_at s.pattern.now graph s.aim c.args.partial.now) c.loop-x.invariant.found c.put.new.self c.put.ensures (list c.extend.new.found) c.in_ok-extend.ensures.found;
-      steps = λ live start.
-          turn_steps s.pattern.now s.tree.now graph c.args.partial.now c.vertex-w.result c.loop-x.partial c.loop-x.invariant.partial c.in-Some.x (ends c.loop-x.at) (ends c.in-Some.next) c.in-Some.ensures.ends (cost_from s.pattern.now s.tree.now graph s.order (c.args.k + 1)) c.put.new.self c.put.ensures (more c.in-Some.next) (more c.loop-x.at) c.in-Some.ensures.less c.loop-x.steps c.next.new.steps c.may_take.new.steps c.extend.new.steps c.args.steps.now (members_cost s.pattern.now s.tree.now graph s.order c.args.k c.args.partial.now) c.in-Some.ensures.steps c.may_take.ensures.steps (c.in_ok-extend.ensures.steps live start) (c.loop-x.invariant.steps live start);
+      steps = λ live start all.
+          turn_steps s.pattern.now s.tree.now graph c.args.partial.now c.vertex-w.result c.loop-x.partial c.loop-x.invariant.partial c.in-Some.x (ends c.loop-x.at) (ends c.in-Some.next) c.in-Some.ensures.ends (cost_from s.pattern.now s.tree.now graph s.order (c.args.k + 1)) c.put.new.self c.put.ensures (more c.in-Some.next) (more c.loop-x.at) c.in-Some.ensures.less c.loop-x.steps c.next.new.steps c.may_take.new.steps c.extend.new.steps c.args.steps.now (members_cost s.pattern.now s.tree.now graph s.order c.args.k c.args.partial.now) c.in-Some.ensures.steps c.may_take.ensures.steps (c.in_ok-extend.ensures.steps live start all) (c.loop-x.invariant.steps live start all);
       look =
           (let stands = c.loop-x.invariant.stand c.in-Some.x (subst (λ l. In l c.in-Some.x) (sym c.in-Some.ensures.ends) (inl refl)) in
           let may : may_take s.pattern.now s.tree.now graph s.aim c.args.partial.now (nth_vertex s.order c.args.k) c.in-Some.x ≡ true =
@@ -152,8 +157,8 @@ loop-x-preserved g t c =
       partial = c.loop-x.invariant.partial;
       stand = others_stand (λ y. has_triple graph (triple_of r.direction r.vertex r.label.now y)) c.in-Some.x (ends c.loop-x.at) (ends c.in-Some.next) c.in-Some.ensures.ends c.loop-x.invariant.stand;
       found = turn_skip s.pattern.now s.tree.now s.dcg.now graph s.order c.requires.ready c.args.k few c.args.partial.now c.requires.given c.vertex-w.result c.vertex-w.ensures c.loop-x.partial c.loop-x.invariant.partial s.aim c.in-Some.x (ends c.loop-x.at) (ends c.in-Some.next) c.in-Some.ensures.ends (list c.args.found.now) (list c.loop-x.found) (members_at s.pattern.now graph s.aim c.args.partial.now) c.loop-x.invariant.found c.may_take.result c.may_take.ensures.value c.if-may_take.false;
-      steps = λ live start.
-          skip_steps s.pattern.now s.tree.now graph c.args.partial.now c.vertex-w.result c.loop-x.partial c.loop-x.invariant.partial c.in-Some.x (ends c.loop-x.at) (ends c.in-Some.next) c.in-Some.ensures.ends (cost_from s.pattern.now s.tree.now graph s.order (c.args.k + 1)) (more c.in-Some.next) (more c.loop-x.at) c.in-Some.ensures.less c.loop-x.steps c.next.new.steps c.may_take.new.steps c.args.steps.now (members_cost s.pattern.now s.tree.now graph s.order c.args.k c.args.partial.now) c.in-Some.ensures.steps c.may_take.ensures.steps (c.loop-x.invariant.steps live start);
+      steps = λ live start all.
+          skip_steps s.pattern.now s.tree.now graph c.args.partial.now c.vertex-w.result c.loop-x.partial c.loop-x.invariant.partial c.in-Some.x (ends c.loop-x.at) (ends c.in-Some.next) c.in-Some.ensures.ends (cost_from s.pattern.now s.tree.now graph s.order (c.args.k + 1)) (more c.in-Some.next) (more c.loop-x.at) c.in-Some.ensures.less c.loop-x.steps c.next.new.steps c.may_take.new.steps c.args.steps.now (members_cost s.pattern.now s.tree.now graph s.order c.args.k c.args.partial.now) c.in-Some.ensures.steps c.may_take.ensures.steps (c.loop-x.invariant.steps live start all);
       look =
           look_skip s.pattern.now s.tree.now graph c.vertex-w.result c.in-Some.x (ends c.loop-x.at) (ends c.in-Some.next) c.in-Some.ensures.ends (look_over s.pattern.now s.tree.now graph s.aim s.order c.args.k (ids_of c.args.partial.now) c.vertex-w.result) (goes_next s.pattern.now s.tree.now graph s.aim s.order c.args.k (ids_of c.args.partial.now)) (more c.in-Some.next) (more c.loop-x.at) c.in-Some.ensures.less c.loop-x.steps c.next.new.steps c.may_take.new.steps c.args.steps.now (look_from s.pattern.now s.tree.now graph s.aim s.order c.args.k (ids_of c.args.partial.now)) c.in-Some.ensures.steps c.may_take.ensures.steps c.loop-x.invariant.look;
     }
@@ -164,9 +169,9 @@ returns-clause-steps g t c =
     let candidates = c.candidates_at-candidates.result in
     let r = candidates.row in
     let more = reads (g.G.HoldGraph.outs_from s.graph.now) (g.G.HoldGraph.ins_from s.graph.now) candidates in
-    λ live start.
+    λ live start all.
     (let ended = c.in_default.ensures.steps in
-    omega (arith, ended, c.loop-x.invariant.steps live start, end_paid (length s.pattern.now.edges) (more c.loop-x.at)))
+    omega (arith, ended, c.loop-x.invariant.steps live start all, end_paid (length s.pattern.now.edges) (more c.loop-x.at)))
 
 pub may_take-requires-clause-aim : goal.may_take-requires-clause-aim
 may_take-requires-clause-aim g t c = aimed_is c.args.search.now.pattern.now c.args.search.now.aim c.args.partial.now c.requires.aimed
@@ -179,3 +184,6 @@ returns-clause-look g t c =
     let more = reads (g.G.HoldGraph.outs_from s.graph.now) (g.G.HoldGraph.ins_from s.graph.now) candidates in
     let ended = c.in_default.ensures.steps in
     omega (arith, ended, c.loop-x.invariant.look, end_paid (length s.pattern.now.edges) (more c.loop-x.at))
+
+pub candidates_at-candidates-requires-clause-aim : goal.candidates_at-candidates-requires-clause-aim
+candidates_at-candidates-requires-clause-aim g t c = aimed_is c.args.search.now.pattern.now c.args.search.now.aim c.args.partial.now c.requires.aimed

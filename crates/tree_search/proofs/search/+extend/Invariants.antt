@@ -7,6 +7,7 @@ use Rattle.tree_search.specs.LookCost.{look_from, look_over, goes_next}
 use Rattle.tree_search.specs.CandidatesLeft.{leads_to, left, reads, IsCursor}
 use Rattle.tree_search.specs.Members.{ids_of, members_over, GrewUpTo}
 use Rattle.tree_search.specs.SearchCosts.{MeetsNoDeadEnd, cost_from, members_cost}
+use Rattle.tree_search.specs.declared.aim.Aim.TheVariants.{All}
 use Rattle.tree_search.proofs.search.+extend.Given as goal
 
 abbrev pub decreases-extend : goal.decreases-extend
@@ -25,7 +26,7 @@ invariant-loop-x g l =
       partial : l.partial ≡ l.fn.partial;
       stand : (x : ℕ) → In (ends l.at) x → IsTrue (leads_to graph l.candidates x);
       found : GrewUpTo (list l.fn.found) (list l.found) (members_over_at q graph l.search.aim l.fn.partial l.w (ends l.at)) (members_at q graph l.search.aim l.fn.partial);
-      steps : MeetsNoDeadEnd q l.search.tree.now → l.search.order.start ≡ l.search.tree.now.root
+      steps : MeetsNoDeadEnd q l.search.tree.now → l.search.order.start ≡ l.search.tree.now.root → l.search.aim ≡ All
           → l.steps + ((length q.edges + 3) * (more l.at + 1) + sum_by (cost_from q l.search.tree.now graph l.search.order (l.k + 1)) (members_over q graph l.fn.partial l.w (ends l.at)))
           ≤ l.fn.steps + members_cost q l.search.tree.now graph l.search.order l.k l.fn.partial;
       look : l.steps + ((length q.edges + 3) * (more l.at + 1) + sum_by (look_over q l.search.tree.now graph l.search.aim l.search.order l.k (ids_of l.fn.partial) l.w) (filter (goes_next q l.search.tree.now graph l.search.aim l.search.order l.k (ids_of l.fn.partial)) (ends l.at)))

@@ -1,9 +1,7 @@
-use Rattle.std.proofs.Common.{arith}
 use Rattle.tree_search.specs.Ways.{IsWay}
 use Rattle.tree_search.proofs.WayLemmas.{walked_way, walked_short}
-use Rattle.tree_search.proofs.TieLemmas.{children_count}
 use Rattle.tree_search.specs.Given.{nth_vertex}
-use Rattle.tree_search.proofs.GivenLemmas.{vertex_inside, anchor_stands, member_in_row}
+use Rattle.tree_search.proofs.GivenLemmas.{anchor_stands, member_in_row}
 use Rattle.tree_search.proofs.search.candidates_at.Goals as goal
 
 pub shortest_row-shortest-requires-clause-stands : goal.shortest_row-shortest-requires-clause-stands
@@ -31,14 +29,6 @@ pub returns-clause-short : goal.returns-clause-short
 returns-clause-short g c =
     let s = c.args.search.now in
     walked_short (g.G.HoldGraph.label_text s.graph.now) s.pattern.now (g.G.HoldGraph.graph s.graph.now) c.args.partial.now (nth_vertex s.order c.args.k) c.row_to-row.result c.shortest_row-shortest.result.row c.shortest_row-shortest.ensures.row
-
-pub row_vertices-requires-clause-vertex : goal.row_vertices-requires-clause-vertex
-row_vertices-requires-clause-vertex g c =
-    let s = c.args.search.now in
-    let graph = g.G.HoldGraph.graph s.graph.now in
-    let count = children_count s.pattern.now s.tree.now s.dcg.now graph c.requires.ready.belongs c.requires.ready.exact in
-    let inside = vertex_inside s.pattern.now s.tree.now s.dcg.now graph s.order c.requires.ready c.args.k c.requires.few c.args.partial.now c.requires.given in
-    omega (arith, count, inside, c.requires.given.places, c.vertex.ensures)
 
 pub returns-clause-counted : goal.returns-clause-counted
 returns-clause-counted g c = c.shortest_row-shortest.ensures.turns

@@ -1,4 +1,4 @@
-use Rattle.std.proofs.Common.{◌≡◌, ◌+◌, ◌*◌, ◌≤◌, drop, replicate, None}
+use Rattle.std.proofs.Common.{◌≡◌, ◌+◌, ◌≤◌, drop, replicate, None}
 use Rattle.std.specs.List.{sum_by}
 use Rattle.flux_model.specs.Costs.{embedding_cost}
 use Rattle.flux_model.specs.Embedding.{embeddings}
@@ -14,8 +14,8 @@ invariant-loop-i g l =
     let list = g.F.Found.list in
     record {
       partial : l.partial ≡ replicate (vertex_count l.pattern) None;
-      found : GrewUpTo (list l.fn.found) (list l.found) (members_over l.pattern graph (replicate (vertex_count l.pattern) None) l.root (drop l.i (g.G.HoldGraph.listed l.graph))) (embeddings l.pattern graph);
+      found : GrewUpTo (list l.fn.found) (list l.found) (members_over l.pattern graph (replicate (vertex_count l.pattern) None) l.root (drop l.i l.roots)) (embeddings l.pattern graph);
       steps : MeetsNoDeadEnd l.pattern l.tree
-          → l.steps + sum_by (embedding_cost l.pattern l.tree graph) (members_over l.pattern graph (replicate (vertex_count l.pattern) None) l.root (drop l.i (g.G.HoldGraph.listed l.graph)))
-          ≤ l.fn.steps + 2 * l.i + sum_by (embedding_cost l.pattern l.tree graph) (embeddings l.pattern graph);
+          → l.steps + sum_by (embedding_cost l.pattern l.tree graph) (members_over l.pattern graph (replicate (vertex_count l.pattern) None) l.root (drop l.i l.roots))
+          ≤ l.fn.steps + l.i + sum_by (embedding_cost l.pattern l.tree graph) (embeddings l.pattern graph);
     }
