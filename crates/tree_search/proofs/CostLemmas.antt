@@ -53,32 +53,28 @@ sum_more f h (x ∷ xs) each = omega (arith, sum_by-cons f x xs, sum_by-cons h x
 -- ---- turns
 
 -- what the turns of the row up to the next candidate, and the candidate's tests, come to
-pub turn_paid : (e less more : ℕ) → less + 1 ≤ more → 2 * more + 1 + e + (e + 3) * (less + 1) ≤ 2 * less + (e + 3) * (more + 1)
+pub turn_paid : (e less more : ℕ) → less + 1 ≤ more → 2 * more + 2 + e + (e + 4) * (less + 1) ≤ 2 * less + (e + 4) * (more + 1)
 turn_paid e less more h = by (more_is less more h)
   where
     more_is : (a b : ℕ) → a + 1 ≤ b → (r : ℕ) × (b ≡ a + 1 + r)
     more_is a b l = (b - (a + 1), omega (arith, l))
 
-    by : (r : ℕ) × (more ≡ less + 1 + r) → 2 * more + 1 + e + (e + 3) * (less + 1) ≤ 2 * less + (e + 3) * (more + 1)
+    by : (r : ℕ) × (more ≡ less + 1 + r) → 2 * more + 2 + e + (e + 4) * (less + 1) ≤ 2 * less + (e + 4) * (more + 1)
     by (r, is) =
         let whole : more + 1 ≡ (less + 1) + (r + 1) = omega (arith, is) in
-        let split : (e + 3) * (more + 1) ≡ (e + 3) * (less + 1) + (e + 3) * (r + 1) = ap (λ n. (e + 3) * n) whole ∙ mul-add (e + 3) (less + 1) (r + 1) in
+        let split : (e + 4) * (more + 1) ≡ (e + 4) * (less + 1) + (e + 4) * (r + 1) = ap (λ n. (e + 4) * n) whole ∙ mul-add (e + 4) (less + 1) (r + 1) in
         let one : r + 1 ≡ suc r = omega arith in
-        let first : (e + 3) * (r + 1) ≡ (e + 3) * r + (e + 3) = ap (λ n. (e + 3) * n) one ∙ mul-suc (e + 3) r in
-        let three : (e + 3) * r ≡ e * r + 3 * r = add-mul e 3 r in
-        omega (arith, split, first, three, is)
+        let first : (e + 4) * (r + 1) ≡ (e + 4) * r + (e + 4) = ap (λ n. (e + 4) * n) one ∙ mul-suc (e + 4) r in
+        let four : (e + 4) * r ≡ e * r + 4 * r = add-mul e 4 r in
+        omega (arith, split, first, four, is)
 
 -- the end of a row
-pub end_paid : (e n : ℕ) → 2 * n + 1 ≤ (e + 3) * (n + 1)
-end_paid e n = let three : (e + 3) * (n + 1) ≡ e * (n + 1) + 3 * (n + 1) = add-mul e 3 (n + 1) in omega (arith, three)
+pub end_paid : (e n : ℕ) → 2 * n + 1 ≤ (e + 4) * (n + 1)
+end_paid e n = let four : (e + 4) * (n + 1) ≡ e * (n + 1) + 4 * (n + 1) = add-mul e 4 (n + 1) in omega (arith, four)
 
 -- a row no longer than the degree costs no more than the turns of all
-pub products : (e a b : ℕ) → a ≤ b → (e + 3) * (a + 1) ≤ (e + 4) * (1 + b)
-products e a b h =
-    let wide : (e + 3) * (a + 1) ≤ (e + 3) * (1 + b) = mul-le-mul_left (e + 3) (omega (arith, h)) in
-    let four : (e + 4) * (1 + b) ≡ e * (1 + b) + 4 * (1 + b) = add-mul e 4 (1 + b) in
-    let three : (e + 3) * (1 + b) ≡ e * (1 + b) + 3 * (1 + b) = add-mul e 3 (1 + b) in
-    omega (arith, wide, four, three)
+pub products : (e a b : ℕ) → a ≤ b → (e + 4) * (a + 1) ≤ (e + 4) * (1 + b)
+products e a b h = mul-le-mul_left (e + 4) (omega (arith, h))
 
 -- ---- rows
 
@@ -110,7 +106,7 @@ module _ (q : PatternGraph) (t : QueryTree) (d : StateRows) (g : Graph) (o : Sea
   -- the row of the anchor, and what the embeddings cost from the next place on, come to no more than what they cost from this place on
   pub row_paid : (k : ℕ) → 1 ≤ k → k < length (vertices o) → (p : List (Option ℕ)) → IsGiven q t g o k p → (v : ℕ) → id_of p (nth_anchor o k) ≡ Some v → (n : ℕ) → n ≤ degree g v
       → (over : List (List ℕ)) → IsPermutation over (members_from q g p)
-      → (length q.edges + 3) * (n + 1) + sum_by (cost_from q t g o (k + 1)) over ≤ members_cost q t g o k p
+      → (length q.edges + 4) * (n + 1) + sum_by (cost_from q t g o (k + 1)) over ≤ members_cost q t g o k p
   row_paid k some few p known v has n few_rows over same =
       let m = goes_somewhere q t d g o ready start live (left k few) k (left_is k few) some p known in
       let up = anchor_above q t d g o ready start k some few in
@@ -122,7 +118,7 @@ module _ (q : PatternGraph) (t : QueryTree) (d : StateRows) (g : Graph) (o : Sea
       ∙ sum_both (λ m. scale * row_cost t g m (nth_vertex o k)) (cost_from q t g o (k + 1)) (members_from q g p) in
       let moved : sum_by (cost_from q t g o (k + 1)) (members_from q g p) ≡ sum_by (cost_from q t g o (k + 1)) over = sum_by-IsPermutation (cost_from q t g o (k + 1)) over (members_from q g p) same in
       let product : scale * row_cost t g m.0 (nth_vertex o k) ≡ scale * (1 + degree g v) = ap (λ n. scale * n) cost in
-      let larger : (length q.edges + 3) * (n + 1) ≤ scale * (1 + degree g v) = products (length q.edges) n (degree g v) few_rows in
+      let larger : (length q.edges + 4) * (n + 1) ≤ scale * (1 + degree g v) = products (length q.edges) n (degree g v) few_rows in
       omega (arith, one, whole, moved, product, larger)
     where
       left : (k : ℕ) → k < length (vertices o) → ℕ
@@ -181,7 +177,7 @@ module _ (q : PatternGraph) (t : QueryTree) (d : StateRows) (g : Graph) (o : Sea
 
   -- at first the row and the embeddings over its candidates are to be paid
   pub start_paid : (k : ℕ) → 1 ≤ k → (few : k < length (vertices o)) (p : List (Option ℕ)) (known : IsGiven q t g o k p) (w : ℕ) → w ≡ nth_vertex o k → (v : ℕ) → id_of p (nth_anchor o k) ≡ Some v → (n : ℕ) → n ≤ degree g v → (xs : List ℕ) → IsDistinct nat_eq xs → HasMembers q t d g o ready k few p known All xs
-      → (length q.edges + 3) * (n + 1) + sum_by (cost_from q t g o (k + 1)) (members_over q g p w xs) ≤ members_cost q t g o k p
+      → (length q.edges + 4) * (n + 1) + sum_by (cost_from q t g o (k + 1)) (members_over q g p w xs) ≤ members_cost q t g o k p
   start_paid k some few p known w at v anchor n most xs apart has =
       let split = members_listed q t d g o ready k few p known All xs apart has in
       let split' : IsPermutation (members_over q g p w xs) (members_from q g p) = subst (λ u. IsPermutation (members_over q g p u xs) (members_from q g p)) (sym at) split in
@@ -209,16 +205,16 @@ module _ (q : PatternGraph) (t : QueryTree) (g : Graph) (p : List (Option ℕ)) 
   over_put put is = ap (λ l. sum_by cost (members_from q g l)) (is ∙ ap (λ l. slice_set l w (Some x)) same)
 
   -- a candidate that is taken is paid for
-  pub turn_steps : (put : List (Option ℕ)) → put ≡ slice_set now w (Some x) → (less more : ℕ) → less < more → (s0 s1 s2 s3 first whole : ℕ) → s1 + 2 * less ≤ s0 + 2 * more → s2 ≤ s1 + test_cost q t g w x → s3 ≤ s2 + sum_by cost (members_from q g put)
-      → s0 + ((length q.edges + 3) * (more + 1) + sum_by cost (members_over q g p w xs)) ≤ first + whole
-      → s3 + ((length q.edges + 3) * (less + 1) + sum_by cost (members_over q g p w rest)) ≤ first + whole
+  pub turn_steps : (put : List (Option ℕ)) → put ≡ slice_set now w (Some x) → (less more : ℕ) → less < more → (s0 s1 s2 s3 first whole : ℕ) → s1 + 2 * less ≤ s0 + 2 * more → s2 ≤ s1 + test_cost q t g w x + 1 → s3 ≤ s2 + sum_by cost (members_from q g put)
+      → s0 + ((length q.edges + 4) * (more + 1) + sum_by cost (members_over q g p w xs)) ≤ first + whole
+      → s3 + ((length q.edges + 4) * (less + 1) + sum_by cost (members_over q g p w rest)) ≤ first + whole
   turn_steps put is less more h s0 s1 s2 s3 first whole a b c d =
       omega (arith, a, b, c, d, test_most q t g w x, turn_paid (length q.edges) less more (omega (arith, h)), over_split, over_put put is)
 
   -- so is one that is not
-  pub skip_steps : (less more : ℕ) → less < more → (s0 s1 s2 first whole : ℕ) → s1 + 2 * less ≤ s0 + 2 * more → s2 ≤ s1 + test_cost q t g w x
-      → s0 + ((length q.edges + 3) * (more + 1) + sum_by cost (members_over q g p w xs)) ≤ first + whole
-      → s2 + ((length q.edges + 3) * (less + 1) + sum_by cost (members_over q g p w rest)) ≤ first + whole
+  pub skip_steps : (less more : ℕ) → less < more → (s0 s1 s2 first whole : ℕ) → s1 + 2 * less ≤ s0 + 2 * more → s2 ≤ s1 + test_cost q t g w x + 1
+      → s0 + ((length q.edges + 4) * (more + 1) + sum_by cost (members_over q g p w xs)) ≤ first + whole
+      → s2 + ((length q.edges + 4) * (less + 1) + sum_by cost (members_over q g p w rest)) ≤ first + whole
   skip_steps less more h s0 s1 s2 first whole a b d =
       omega (arith, a, b, d, test_most q t g w x, turn_paid (length q.edges) less more (omega (arith, h)), over_split)
 

@@ -18,3 +18,4 @@ pub mod LookLemmas
 pub mod WayLemmas
 pub mod CandidateLemmas
 pub mod BarrenLemmas
+mod AheadLemmas

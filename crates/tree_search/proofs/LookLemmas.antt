@@ -196,7 +196,7 @@ module _ (q : PatternGraph) (t : QueryTree) (d : StateRows) (g : Graph) (o : Sea
 
   -- the row and what goes on from it are within the budget
   pub look_start : (n : ℕ) → n ≤ degree g v → (xs : List ℕ) → IsDistinct nat_eq xs → (u : ℕ) → u ≡ w
-      → (length q.edges + 3) * (n + 1) + sum_by (look_over q t g aim o k m u) (filter (goes_next q t g aim o k m) xs) ≤ look_from q t g aim o k m
+      → (length q.edges + 4) * (n + 1) + sum_by (look_over q t g aim o k m u) (filter (goes_next q t g aim o k m) xs) ≤ look_from q t g aim o k m
   look_start n most xs apart u at =
       omega (arith, wide, among, scaled, whole)
     where
@@ -209,7 +209,7 @@ module _ (q : PatternGraph) (t : QueryTree) (d : StateRows) (g : Graph) (o : Sea
       read : ℕ → ℕ
       read z = rows_read q t g (head_of q aim) (target_of aim) (drop k o.places) (slice_set m w z)
 
-      wide : (length q.edges + 3) * (n + 1) ≤ scale * (1 + degree g v)
+      wide : (length q.edges + 4) * (n + 1) ≤ scale * (1 + degree g v)
       wide = products (length q.edges) n (degree g v) most
 
       among : sum_by (look_over q t g aim o k m u) (filter (goes_next q t g aim o k m) xs) ≤ sum_by (λ z. scale * read z) nexts
@@ -240,16 +240,16 @@ module _ (q : PatternGraph) (t : QueryTree) (g : Graph) (w x : ℕ) (xs rest : L
       by false = omega arith
 
   -- a candidate that is taken, with what goes on from it, is within the budget
-  pub look_turn : keep x ≡ true → (less more : ℕ) → less < more → (s0 s1 s2 s3 first whole inner : ℕ) → s1 + 2 * less ≤ s0 + 2 * more → s2 ≤ s1 + test_cost q t g w x → s3 ≤ s2 + inner → inner ≡ cost x
-      → s0 + ((length q.edges + 3) * (more + 1) + sum_by cost (filter keep xs)) ≤ first + whole
-      → s3 + ((length q.edges + 3) * (less + 1) + sum_by cost (filter keep rest)) ≤ first + whole
+  pub look_turn : keep x ≡ true → (less more : ℕ) → less < more → (s0 s1 s2 s3 first whole inner : ℕ) → s1 + 2 * less ≤ s0 + 2 * more → s2 ≤ s1 + test_cost q t g w x + 1 → s3 ≤ s2 + inner → inner ≡ cost x
+      → s0 + ((length q.edges + 4) * (more + 1) + sum_by cost (filter keep xs)) ≤ first + whole
+      → s3 + ((length q.edges + 4) * (less + 1) + sum_by cost (filter keep rest)) ≤ first + whole
   look_turn keeps less more h s0 s1 s2 s3 first whole inner a b c same d =
       omega (arith, a, b, c, same, d, test_most q t g w x, turn_paid (length q.edges) less more (omega (arith, h)), kept keeps)
 
   -- so is one that is not
-  pub look_skip : (less more : ℕ) → less < more → (s0 s1 s2 first whole : ℕ) → s1 + 2 * less ≤ s0 + 2 * more → s2 ≤ s1 + test_cost q t g w x
-      → s0 + ((length q.edges + 3) * (more + 1) + sum_by cost (filter keep xs)) ≤ first + whole
-      → s2 + ((length q.edges + 3) * (less + 1) + sum_by cost (filter keep rest)) ≤ first + whole
+  pub look_skip : (less more : ℕ) → less < more → (s0 s1 s2 first whole : ℕ) → s1 + 2 * less ≤ s0 + 2 * more → s2 ≤ s1 + test_cost q t g w x + 1
+      → s0 + ((length q.edges + 4) * (more + 1) + sum_by cost (filter keep xs)) ≤ first + whole
+      → s2 + ((length q.edges + 4) * (less + 1) + sum_by cost (filter keep rest)) ≤ first + whole
   look_skip less more h s0 s1 s2 first whole a b d =
       omega (arith, a, b, d, test_most q t g w x, turn_paid (length q.edges) less more (omega (arith, h)), fewer)
 

@@ -1,5 +1,5 @@
 -- One turn of the search: a candidate for the vertex at place k.
-use Rattle.std.proofs.Common.{◌≡◌, ℕ, suc, ◌+◌, ◌<◌, ◌≤◌, Bool, true, false, List, ◌∷◌, ◌++◌, drop, drop_of_length-le, length, replicate, Option, Some, None, is_some, inl, inr, refl, sym, ap, ◌∙◌, subst, arith, nat_eq}
+use Rattle.std.proofs.Common.{◌≡◌, ℕ, suc, ◌+◌, ◌<◌, ◌≤◌, Bool, true, false, List, [], ◌∷◌, ◌++◌, drop, drop_of_length-le, length, replicate, Option, Some, None, is_some, inl, inr, refl, sym, ap, ◌∙◌, subst, arith, nat_eq}
 use Rattle.std.specs.Prelude.{slice_get, slice_set, slice_index, IsPermutation, ◌==◌}
 use Rattle.std.specs.List.{IsDistinct, list_any}
 use Rattle.std.proofs.lemmas.Bool.{and_parts, eqb-true}
@@ -72,6 +72,10 @@ module _ (q : PatternGraph) (t : QueryTree) (d : StateRows) (g : Graph) (o : Sea
     turn_skip told may fails =
         grew_skip old mid (members_at q g aim (with_id p w x)) (members_over_at q g aim p w rest) all first
         (dead_end q t g ready.belongs p w x known.places inside free aim (ap (λ l. may_take q t g aim l w x) (sym same) ∙ sym may ∙ fails))
+
+    -- no embedding has x
+    pub turn_none : members_at q g aim (with_id now w x) ≡ [] → GrewUpTo old mid (members_over_at q g aim p w rest) all
+    turn_none none = grew_skip old mid (members_at q g aim (with_id p w x)) (members_over_at q g aim p w rest) all first (ap (λ l. members_at q g aim (with_id l w x)) (sym same) ∙ none)
 
   passed : (x : ℕ) (told : Bool) → told ≡ may_have q t g now w x → told ≡ true → may_have q t g p (nth_vertex o k) x ≡ true
   passed x told may passes = (λ i. may_have q t g (sym same i) (sym at i) x) ∙ sym may ∙ passes

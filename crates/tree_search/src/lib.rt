@@ -9,6 +9,7 @@
 //! - `found`: what takes the embeddings, one after another.
 //! - `aim`: which embeddings a search is for.
 //! - `explicit_pairs`: what the index tells of them.
+//! - `ahead`: what the id that a head has to have tells of a candidate.
 //! - `candidates`: the ids that a vertex may have beside its anchor's, from the shortest of some lists.
 //! - `other_rows`: the shorter row of another neighbour's id.
 //! - `search`: how a search goes on from the ids that are given.
@@ -17,6 +18,7 @@
 //! Only what takes the embeddings wants memory.
 #![tactic(auto)]
 
+mod ahead;
 mod aim;
 mod candidates;
 mod explicit_pairs;

@@ -1,9 +1,10 @@
 //! `Search`: what is searched, and how it goes on from the ids that the first vertices of its order have.
 ghost use Rattle.std.specs.Prelude.{◌≡◌, ◌≤◌, ◌+◌, ◌<◌, ◌++◌, ℕ, [], ◌∷◌, Some, None, IsTrue, IsSome, OnOk, OnErr};
-ghost use Rattle.std.specs.Prelude.{length, slice_get, nat_eq};
+ghost use Rattle.std.specs.Prelude.{length, slice_get, nat_eq, true, false};
 ghost use Rattle.std.specs.List.{IsDistinct};
 ghost use Rattle.flux_model.specs.Costs.{degree};
 ghost use Rattle.flux_model.specs.Order.{are_neighbours};
+ghost use Rattle.flux_model.specs.Partial.{with_id};
 ghost use Rattle.flux_model.specs.Pattern.{vertex_count};
 ghost use Rattle.flux_model.specs.Tree.{BelongsTo, link_at};
 ghost use Rattle.graph_traits.specs.Numbers.{IsNumberIn};
@@ -19,6 +20,7 @@ ghost use Rattle.tree_search.specs.Members.{ids_of, GrewByAll, GrewBySome};
 ghost use Rattle.tree_search.specs.SearchCosts.{MeetsNoDeadEnd, test_cost, members_cost};
 ghost use Rattle.tree_search.specs.Ways.{IsWay, turns};
 
+use crate::ahead::meets_head;
 use crate::aim::{Aim, keeps_aim, target};
 use crate::candidates::Candidates;
 use crate::explicit_pairs::is_explicit;
@@ -89,7 +91,7 @@ pub fn extend<G: ReadGraph<L>, F: Found, L: Ledger>(
     let mut at = candidates.first(search.graph);
     while let Some((x, next)) = candidates.next(search.graph, at, steps) {
         at = next;
-        if may_take(search, w, x, partial, steps) {
+        if may_try(search, w, x, partial, steps) {
             partial.put(w, x);
             extend(search, k + 1, partial, found, steps)?;
             partial.clear(w);
@@ -208,6 +210,35 @@ fn edge_above(_pattern: &Pattern, tree: &QueryTree, u: usize) -> usize
 {
     let link = tree.parent(u).unwrap();
     link.edge
+}
+
+/// Whether the search is to go on with the id `x` for the vertex `w`, which has no id yet: it may have it, and where it does not
+/// go on, no embedding that is aimed at has it.
+fn may_try<G: ReadGraph<L>, L: Ledger>(
+    search: &Search<'_, '_, G>,
+    w: usize,
+    x: u32,
+    partial: &Partial,
+    steps: &mut Steps<L>,
+) -> bool
+    requires ready { IsReady search.now.pattern.now search.now.tree.now search.now.dcg.now (G.graph search.now.graph.now) search.now.order }
+    requires numbers { AreNumbersOf (G.label_text search.now.graph.now) (G.graph search.now.graph.now)
+        search.now.pattern.now search.now.numbers }
+    requires aim { IsAim search.now.pattern.now search.now.aim }
+    requires places { length partial.now ≡ vertex_count search.now.pattern.now }
+    requires vertex { w < length partial.now }
+    requires open { slice_get partial.now w ≡ Some None }
+    ensures taken { result ≡ true
+        → may_take search.now.pattern.now search.now.tree.now (G.graph search.now.graph.now) search.now.aim partial.now w x ≡ true }
+    ensures none { result ≡ false
+        → members_at search.now.pattern.now (G.graph search.now.graph.now) search.now.aim (with_id partial.now w x) ≡ [] }
+    ensures steps { steps.new
+        ≤ steps.old + test_cost search.now.pattern.now search.now.tree.now (G.graph search.now.graph.now) w x + 1 }
+{
+    if !meets_head(search, w, x, partial, steps) {
+        return false;
+    }
+    may_take(search, w, x, partial, steps)
 }
 
 /// Whether the vertex `w`, which has no id yet, may have the id `x` in an embedding that is aimed at.

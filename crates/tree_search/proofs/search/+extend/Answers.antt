@@ -17,7 +17,7 @@ use Rattle.tree_search.proofs.GivenLemmas.{member_in_row, HasMembers}
 use Rattle.tree_search.proofs.PassLemmas.{member}
 use Rattle.tree_search.specs.declared.aim.Aim.TheVariants.{All}
 use Rattle.tree_search.proofs.WholeLemmas.{one_member}
-use Rattle.tree_search.proofs.TurnLemmas.{turn_open, turn_back, turn_found, turn_stop, turn_skip, turn_given, turn_aimed, turns_start, others_stand}
+use Rattle.tree_search.proofs.TurnLemmas.{turn_open, turn_back, turn_found, turn_stop, turn_none, turn_given, turn_aimed, turns_start, others_stand}
 use Rattle.tree_search.specs.SearchCosts.{cost_from, members_cost}
 use Rattle.tree_search.proofs.CostLemmas.{start_paid, turn_steps, skip_steps, end_paid}
 use Rattle.tree_search.proofs.search.+extend.Goals as goal
@@ -86,8 +86,8 @@ next-requires-clause-stands g t c = c.candidates_at-candidates.ensures.way.stand
 pub next-requires-clause-walked : goal.next-requires-clause-walked
 next-requires-clause-walked g t c = c.candidates_at-candidates.ensures.way.number
 
-pub may_take-requires-clause-open : goal.may_take-requires-clause-open
-may_take-requires-clause-open g t c =
+pub may_try-requires-clause-open : goal.may_try-requires-clause-open
+may_try-requires-clause-open g t c =
     let s = c.args.search.now in
     turn_open s.pattern.now s.tree.now s.dcg.now (g.G.HoldGraph.graph s.graph.now) s.order c.requires.ready c.args.k (omega (arith, c.requires.few, c.if-k-len.false, c.len.ensures)) c.args.partial.now c.requires.given c.vertex-w.result c.vertex-w.ensures c.loop-x.partial c.loop-x.invariant.partial
 
@@ -99,9 +99,9 @@ extend-requires g t c κs within =
     let graph = g.G.HoldGraph.graph s.graph.now in
     let more = reads (g.G.HoldGraph.outs_from s.graph.now) (g.G.HoldGraph.ins_from s.graph.now) candidates in
     let ends = left (g.G.HoldGraph.outs_from s.graph.now) (g.G.HoldGraph.ins_from s.graph.now) (g.G.HoldGraph.graph s.graph.now) candidates in
-    let given = turn_given s.pattern.now s.tree.now s.dcg.now graph s.order c.requires.ready c.args.k (omega (arith, c.requires.few, c.if-k-len.false, c.len.ensures)) c.args.partial.now c.requires.given c.vertex-w.result c.vertex-w.ensures c.loop-x.partial c.loop-x.invariant.partial s.aim c.requires.some r.vertex r.direction r.label.now c.candidates_at-candidates.ensures.row c.in-Some.x (ends c.loop-x.at) (ends c.in-Some.next) c.in-Some.ensures.ends c.loop-x.invariant.stand c.may_take.result c.may_take.ensures.value c.if-may_take.true c.put.new.self c.put.ensures in
+    let given = turn_given s.pattern.now s.tree.now s.dcg.now graph s.order c.requires.ready c.args.k (omega (arith, c.requires.few, c.if-k-len.false, c.len.ensures)) c.args.partial.now c.requires.given c.vertex-w.result c.vertex-w.ensures c.loop-x.partial c.loop-x.invariant.partial s.aim c.requires.some r.vertex r.direction r.label.now c.candidates_at-candidates.ensures.row c.in-Some.x (ends c.loop-x.at) (ends c.in-Some.next) c.in-Some.ensures.ends c.loop-x.invariant.stand true (sym (c.may_try.ensures.taken c.if-may_try.true)) refl c.put.new.self c.put.ensures in
     let few : c.args.k + 1 ≤ length (vertices s.order) = omega (arith, c.requires.few, c.if-k-len.false, c.len.ensures) in
-    let aimed = turn_aimed s.pattern.now s.tree.now s.dcg.now graph s.order c.requires.ready c.args.k (omega (arith, c.requires.few, c.if-k-len.false, c.len.ensures)) c.args.partial.now c.requires.given c.vertex-w.result c.vertex-w.ensures c.loop-x.partial c.loop-x.invariant.partial s.aim c.requires.aimed c.in-Some.x c.may_take.result c.may_take.ensures.value c.if-may_take.true c.put.new.self c.put.ensures in
+    let aimed = turn_aimed s.pattern.now s.tree.now s.dcg.now graph s.order c.requires.ready c.args.k (omega (arith, c.requires.few, c.if-k-len.false, c.len.ensures)) c.args.partial.now c.requires.given c.vertex-w.result c.vertex-w.ensures c.loop-x.partial c.loop-x.invariant.partial s.aim c.requires.aimed c.in-Some.x true (sym (c.may_try.ensures.taken c.if-may_try.true)) refl c.put.new.self c.put.ensures in
     (search rules, (within.0, (within.1.0, (within.1.1, (c.requires.ready, (c.requires.numbers, (omega arith, (few, (given, aimed)))))))))
 
 pub returns-in_err-extend-clause-some : goal.returns-in_err-extend-clause-some
@@ -115,8 +115,8 @@ returns-in_err-extend-clause-some g t c =
     let ends = left (g.G.HoldGraph.outs_from s.graph.now) (g.G.HoldGraph.ins_from s.graph.now) (g.G.HoldGraph.graph s.graph.now) candidates in
     any_err c.from_residual.result (turn_stop s.pattern.now s.tree.now s.dcg.now graph s.order c.requires.ready c.args.k (omega (arith, c.requires.few, c.if-k-len.false, c.len.ensures)) c.args.partial.now c.requires.given c.vertex-w.result c.vertex-w.ensures c.loop-x.partial c.loop-x.invariant.partial s.aim c.in-Some.x (ends c.loop-x.at) (ends c.in-Some.next) c.in-Some.ensures.ends (list c.args.found.now) (list c.loop-x.found) (members_at s.pattern.now graph s.aim c.args.partial.now) c.loop-x.invariant.found c.put.new.self c.put.ensures (list c.extend.new.found) c.in_err-extend.ensures.some)
 
-pub loop-x-preserved-then-may_take : goal.loop-x-preserved-then-may_take
-loop-x-preserved-then-may_take g t c =
+pub loop-x-preserved-then-may_try : goal.loop-x-preserved-then-may_try
+loop-x-preserved-then-may_try g t c =
     let s = c.args.search.now in
     let candidates = c.candidates_at-candidates.result in
     let r = candidates.row in
@@ -131,13 +131,13 @@ loop-x-preserved-then-may_take g t c =
       stand = others_stand (λ y. has_triple graph (triple_of r.direction r.vertex r.label.now y)) c.in-Some.x (ends c.loop-x.at) (ends c.in-Some.next) c.in-Some.ensures.ends c.loop-x.invariant.stand;
       found = turn_found s.pattern.now s.tree.now s.dcg.now graph s.order c.requires.ready c.args.k few c.args.partial.now c.requires.given c.vertex-w.result c.vertex-w.ensures c.loop-x.partial c.loop-x.invariant.partial s.aim c.in-Some.x (ends c.loop-x.at) (ends c.in-Some.next) c.in-Some.ensures.ends (list c.args.found.now) (list c.loop-x.found) (members_at s.pattern.now graph s.aim c.args.partial.now) c.loop-x.invariant.found c.put.new.self c.put.ensures (list c.extend.new.found) c.in_ok-extend.ensures.found;
       steps = λ live start all.
-          turn_steps s.pattern.now s.tree.now graph c.args.partial.now c.vertex-w.result c.loop-x.partial c.loop-x.invariant.partial c.in-Some.x (ends c.loop-x.at) (ends c.in-Some.next) c.in-Some.ensures.ends (cost_from s.pattern.now s.tree.now graph s.order (c.args.k + 1)) c.put.new.self c.put.ensures (more c.in-Some.next) (more c.loop-x.at) c.in-Some.ensures.less c.loop-x.steps c.next.new.steps c.may_take.new.steps c.extend.new.steps c.args.steps.now (members_cost s.pattern.now s.tree.now graph s.order c.args.k c.args.partial.now) c.in-Some.ensures.steps c.may_take.ensures.steps (c.in_ok-extend.ensures.steps live start all) (c.loop-x.invariant.steps live start all);
+          turn_steps s.pattern.now s.tree.now graph c.args.partial.now c.vertex-w.result c.loop-x.partial c.loop-x.invariant.partial c.in-Some.x (ends c.loop-x.at) (ends c.in-Some.next) c.in-Some.ensures.ends (cost_from s.pattern.now s.tree.now graph s.order (c.args.k + 1)) c.put.new.self c.put.ensures (more c.in-Some.next) (more c.loop-x.at) c.in-Some.ensures.less c.loop-x.steps c.next.new.steps c.may_try.new.steps c.extend.new.steps c.args.steps.now (members_cost s.pattern.now s.tree.now graph s.order c.args.k c.args.partial.now) c.in-Some.ensures.steps c.may_try.ensures.steps (c.in_ok-extend.ensures.steps live start all) (c.loop-x.invariant.steps live start all);
       look =
           (let stands = c.loop-x.invariant.stand c.in-Some.x (subst (λ l. In l c.in-Some.x) (sym c.in-Some.ensures.ends) (inl refl)) in
           let may : may_take s.pattern.now s.tree.now graph s.aim c.args.partial.now (nth_vertex s.order c.args.k) c.in-Some.x ≡ true =
-          (λ i. may_take s.pattern.now s.tree.now graph s.aim (sym c.loop-x.invariant.partial i) (sym c.vertex-w.ensures i) c.in-Some.x) ∙ sym c.may_take.ensures.value ∙ c.if-may_take.true in
+          (λ i. may_take s.pattern.now s.tree.now graph s.aim (sym c.loop-x.invariant.partial i) (sym c.vertex-w.ensures i) c.in-Some.x) ∙ c.may_try.ensures.taken c.if-may_try.true in
           let keeps = taken_next s.pattern.now s.tree.now s.dcg.now graph s.order c.requires.ready s.aim c.args.k c.requires.some few c.args.partial.now r.vertex r.direction r.label.now c.candidates_at-candidates.ensures.row c.in-Some.x may stands in
-          look_turn s.pattern.now s.tree.now graph c.vertex-w.result c.in-Some.x (ends c.loop-x.at) (ends c.in-Some.next) c.in-Some.ensures.ends (look_over s.pattern.now s.tree.now graph s.aim s.order c.args.k (ids_of c.args.partial.now) c.vertex-w.result) (goes_next s.pattern.now s.tree.now graph s.aim s.order c.args.k (ids_of c.args.partial.now)) keeps (more c.in-Some.next) (more c.loop-x.at) c.in-Some.ensures.less c.loop-x.steps c.next.new.steps c.may_take.new.steps c.extend.new.steps c.args.steps.now (look_from s.pattern.now s.tree.now graph s.aim s.order c.args.k (ids_of c.args.partial.now)) (look_from s.pattern.now s.tree.now graph s.aim s.order (c.args.k + 1) (ids_of c.put.new.self)) c.in-Some.ensures.steps c.may_take.ensures.steps c.in_ok-extend.ensures.look
+          look_turn s.pattern.now s.tree.now graph c.vertex-w.result c.in-Some.x (ends c.loop-x.at) (ends c.in-Some.next) c.in-Some.ensures.ends (look_over s.pattern.now s.tree.now graph s.aim s.order c.args.k (ids_of c.args.partial.now) c.vertex-w.result) (goes_next s.pattern.now s.tree.now graph s.aim s.order c.args.k (ids_of c.args.partial.now)) keeps (more c.in-Some.next) (more c.loop-x.at) c.in-Some.ensures.less c.loop-x.steps c.next.new.steps c.may_try.new.steps c.extend.new.steps c.args.steps.now (look_from s.pattern.now s.tree.now graph s.aim s.order c.args.k (ids_of c.args.partial.now)) (look_from s.pattern.now s.tree.now graph s.aim s.order (c.args.k + 1) (ids_of c.put.new.self)) c.in-Some.ensures.steps c.may_try.ensures.steps c.in_ok-extend.ensures.look
           (look_inner s.pattern.now s.tree.now graph s.aim s.order c.args.k c.args.partial.now c.loop-x.partial c.put.new.self c.vertex-w.result c.in-Some.x c.loop-x.invariant.partial c.put.ensures)
           c.loop-x.invariant.look);
     }
@@ -156,11 +156,11 @@ loop-x-preserved g t c =
       place = c.in-Some.ensures.next;
       partial = c.loop-x.invariant.partial;
       stand = others_stand (λ y. has_triple graph (triple_of r.direction r.vertex r.label.now y)) c.in-Some.x (ends c.loop-x.at) (ends c.in-Some.next) c.in-Some.ensures.ends c.loop-x.invariant.stand;
-      found = turn_skip s.pattern.now s.tree.now s.dcg.now graph s.order c.requires.ready c.args.k few c.args.partial.now c.requires.given c.vertex-w.result c.vertex-w.ensures c.loop-x.partial c.loop-x.invariant.partial s.aim c.in-Some.x (ends c.loop-x.at) (ends c.in-Some.next) c.in-Some.ensures.ends (list c.args.found.now) (list c.loop-x.found) (members_at s.pattern.now graph s.aim c.args.partial.now) c.loop-x.invariant.found c.may_take.result c.may_take.ensures.value c.if-may_take.false;
+      found = turn_none s.pattern.now s.tree.now s.dcg.now graph s.order c.requires.ready c.args.k few c.args.partial.now c.requires.given c.vertex-w.result c.vertex-w.ensures c.loop-x.partial c.loop-x.invariant.partial s.aim c.in-Some.x (ends c.loop-x.at) (ends c.in-Some.next) c.in-Some.ensures.ends (list c.args.found.now) (list c.loop-x.found) (members_at s.pattern.now graph s.aim c.args.partial.now) c.loop-x.invariant.found (c.may_try.ensures.none c.if-may_try.false);
       steps = λ live start all.
-          skip_steps s.pattern.now s.tree.now graph c.args.partial.now c.vertex-w.result c.loop-x.partial c.loop-x.invariant.partial c.in-Some.x (ends c.loop-x.at) (ends c.in-Some.next) c.in-Some.ensures.ends (cost_from s.pattern.now s.tree.now graph s.order (c.args.k + 1)) (more c.in-Some.next) (more c.loop-x.at) c.in-Some.ensures.less c.loop-x.steps c.next.new.steps c.may_take.new.steps c.args.steps.now (members_cost s.pattern.now s.tree.now graph s.order c.args.k c.args.partial.now) c.in-Some.ensures.steps c.may_take.ensures.steps (c.loop-x.invariant.steps live start all);
+          skip_steps s.pattern.now s.tree.now graph c.args.partial.now c.vertex-w.result c.loop-x.partial c.loop-x.invariant.partial c.in-Some.x (ends c.loop-x.at) (ends c.in-Some.next) c.in-Some.ensures.ends (cost_from s.pattern.now s.tree.now graph s.order (c.args.k + 1)) (more c.in-Some.next) (more c.loop-x.at) c.in-Some.ensures.less c.loop-x.steps c.next.new.steps c.may_try.new.steps c.args.steps.now (members_cost s.pattern.now s.tree.now graph s.order c.args.k c.args.partial.now) c.in-Some.ensures.steps c.may_try.ensures.steps (c.loop-x.invariant.steps live start all);
       look =
-          look_skip s.pattern.now s.tree.now graph c.vertex-w.result c.in-Some.x (ends c.loop-x.at) (ends c.in-Some.next) c.in-Some.ensures.ends (look_over s.pattern.now s.tree.now graph s.aim s.order c.args.k (ids_of c.args.partial.now) c.vertex-w.result) (goes_next s.pattern.now s.tree.now graph s.aim s.order c.args.k (ids_of c.args.partial.now)) (more c.in-Some.next) (more c.loop-x.at) c.in-Some.ensures.less c.loop-x.steps c.next.new.steps c.may_take.new.steps c.args.steps.now (look_from s.pattern.now s.tree.now graph s.aim s.order c.args.k (ids_of c.args.partial.now)) c.in-Some.ensures.steps c.may_take.ensures.steps c.loop-x.invariant.look;
+          look_skip s.pattern.now s.tree.now graph c.vertex-w.result c.in-Some.x (ends c.loop-x.at) (ends c.in-Some.next) c.in-Some.ensures.ends (look_over s.pattern.now s.tree.now graph s.aim s.order c.args.k (ids_of c.args.partial.now) c.vertex-w.result) (goes_next s.pattern.now s.tree.now graph s.aim s.order c.args.k (ids_of c.args.partial.now)) (more c.in-Some.next) (more c.loop-x.at) c.in-Some.ensures.less c.loop-x.steps c.next.new.steps c.may_try.new.steps c.args.steps.now (look_from s.pattern.now s.tree.now graph s.aim s.order c.args.k (ids_of c.args.partial.now)) c.in-Some.ensures.steps c.may_try.ensures.steps c.loop-x.invariant.look;
     }
 
 pub returns-clause-steps : goal.returns-clause-steps
@@ -173,8 +173,8 @@ returns-clause-steps g t c =
     (let ended = c.in_default.ensures.steps in
     omega (arith, ended, c.loop-x.invariant.steps live start all, end_paid (length s.pattern.now.edges) (more c.loop-x.at)))
 
-pub may_take-requires-clause-aim : goal.may_take-requires-clause-aim
-may_take-requires-clause-aim g t c = aimed_is c.args.search.now.pattern.now c.args.search.now.aim c.args.partial.now c.requires.aimed
+pub may_try-requires-clause-aim : goal.may_try-requires-clause-aim
+may_try-requires-clause-aim g t c = aimed_is c.args.search.now.pattern.now c.args.search.now.aim c.args.partial.now c.requires.aimed
 
 pub returns-clause-look : goal.returns-clause-look
 returns-clause-look g t c =

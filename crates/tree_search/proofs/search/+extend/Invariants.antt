@@ -27,9 +27,9 @@ invariant-loop-x g l =
       stand : (x : ℕ) → In (ends l.at) x → IsTrue (leads_to graph l.candidates x);
       found : GrewUpTo (list l.fn.found) (list l.found) (members_over_at q graph l.search.aim l.fn.partial l.w (ends l.at)) (members_at q graph l.search.aim l.fn.partial);
       steps : MeetsNoDeadEnd q l.search.tree.now → l.search.order.start ≡ l.search.tree.now.root → l.search.aim ≡ All
-          → l.steps + ((length q.edges + 3) * (more l.at + 1) + sum_by (cost_from q l.search.tree.now graph l.search.order (l.k + 1)) (members_over q graph l.fn.partial l.w (ends l.at)))
+          → l.steps + ((length q.edges + 4) * (more l.at + 1) + sum_by (cost_from q l.search.tree.now graph l.search.order (l.k + 1)) (members_over q graph l.fn.partial l.w (ends l.at)))
           ≤ l.fn.steps + members_cost q l.search.tree.now graph l.search.order l.k l.fn.partial;
-      look : l.steps + ((length q.edges + 3) * (more l.at + 1) + sum_by (look_over q l.search.tree.now graph l.search.aim l.search.order l.k (ids_of l.fn.partial) l.w) (filter (goes_next q l.search.tree.now graph l.search.aim l.search.order l.k (ids_of l.fn.partial)) (ends l.at)))
+      look : l.steps + ((length q.edges + 4) * (more l.at + 1) + sum_by (look_over q l.search.tree.now graph l.search.aim l.search.order l.k (ids_of l.fn.partial) l.w) (filter (goes_next q l.search.tree.now graph l.search.aim l.search.order l.k (ids_of l.fn.partial)) (ends l.at)))
           ≤ l.fn.steps + look_from q l.search.tree.now graph l.search.aim l.search.order l.k (ids_of l.fn.partial);
     }
 
