@@ -1,4 +1,4 @@
-//! Drawn runs of `watch`: what the program writes of some hundred drawn lines is what the slow way writes of them.
+//! Drawn runs of `watch`: what the program writes of some thousand drawn lines is what the slow way writes of them.
 //!
 //! There are tests alone here:
 //!

@@ -24,8 +24,11 @@ const CUTS: [u64; 5] = [1, 7, 64, 3, 500];
 /// How many bytes each output takes.
 const ROOM: usize = 1 << 20;
 
-/// How many lines one draw has.
+/// How many lines one draw has behind its first.
 const LINES: usize = 60;
+
+/// How many draws one test compares.
+const DRAWS: u64 = 8;
 
 /// The lines that each draw begins with.
 const FIRST_LINES: [&str; 5] = ["v 0 A", "v 1 B", "v 2 A B", "v 3", "v 4 A"];
@@ -55,7 +58,7 @@ fn text_of(alloc: Global, lines: &[Vec<u8>]) -> Result<Vec<u8>, AllocError> {
 
 /// The report of the slow way.
 fn slow_report(alloc: Global, lines: &[Vec<u8>]) -> Result<Vec<u8>, Unmade> {
-    let mut slow = SlowWatch::new(alloc, patterns_of(alloc, PATTERNS)?);
+    let mut slow = SlowWatch::new(alloc, patterns_of(alloc, PATTERNS)?)?;
     let mut report = Vec::new(alloc);
     for line in lines {
         slow.line(line.as_slice(), &mut report)?;
@@ -107,21 +110,42 @@ fn is_right(alloc: Global, number: u64) -> Result<bool, Unmade> {
     Ok(writes(alloc, &text, &report)?)
 }
 
-/// How many of these draws are right, from the first on.
-fn count_right(alloc: Global, numbers: &[u64]) -> Result<usize, Unmade> {
-    for i in 0..numbers.len() {
-        if !is_right(alloc, numbers[i])? {
+/// How many draws are right from this number on, of as many as one test compares.
+fn count_right(alloc: Global, first: u64) -> Result<u64, Unmade> {
+    for i in 0..DRAWS {
+        if !is_right(alloc, first.saturating_add(i))? {
             return Ok(i);
         }
     }
-    Ok(numbers.len())
+    Ok(DRAWS)
 }
 
-const DRAWS: [u64; 8] = [1, 2, 3, 5, 8, 13, 21, 34];
+#[test]
+fn draws_1_to_8(rt: HostRuntime) -> Result<(), Fail> {
+    assert_eq!(rt; count_right(rt.alloc(), 1)?, DRAWS);
+    Ok(())
+}
 
 #[test]
-fn watch_writes_what_the_slow_way_writes(rt: HostRuntime) -> Result<(), Fail> {
-    let right = count_right(rt.alloc(), &DRAWS)?;
-    assert_eq!(rt; right, DRAWS.len());
+fn draws_9_to_16(rt: HostRuntime) -> Result<(), Fail> {
+    assert_eq!(rt; count_right(rt.alloc(), 9)?, DRAWS);
+    Ok(())
+}
+
+#[test]
+fn draws_17_to_24(rt: HostRuntime) -> Result<(), Fail> {
+    assert_eq!(rt; count_right(rt.alloc(), 17)?, DRAWS);
+    Ok(())
+}
+
+#[test]
+fn draws_25_to_32(rt: HostRuntime) -> Result<(), Fail> {
+    assert_eq!(rt; count_right(rt.alloc(), 25)?, DRAWS);
+    Ok(())
+}
+
+#[test]
+fn draws_33_to_40(rt: HostRuntime) -> Result<(), Fail> {
+    assert_eq!(rt; count_right(rt.alloc(), 33)?, DRAWS);
     Ok(())
 }

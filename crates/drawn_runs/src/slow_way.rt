@@ -1,4 +1,5 @@
-//! `watch` the slow way: all embeddings of every pattern are listed before and after each line, and what differs is written.
+//! `watch` the slow way: all embeddings of every pattern are listed after each line that changes the graph, and what differs
+//! from those before it is written.
 use delta_report::{write_end, write_refusal};
 use flux_model::{Code, Limits, Line, Map, Maps, Pattern, Patterns, Said, Update};
 use line_grammar::read_update_line;
@@ -12,6 +13,8 @@ pub(crate) struct SlowWatch {
     alloc: Global,
     graph: PlainGraph,
     patterns: Patterns,
+    /// All embeddings of each pattern in the graph, in ascending order.
+    found: Vec<Maps>,
     lines: u64,
     accepted: u64,
     refused: u64,
@@ -19,15 +22,18 @@ pub(crate) struct SlowWatch {
 
 impl SlowWatch {
     /// The empty graph, before the first line.
-    pub(crate) fn new(alloc: Global, patterns: Patterns) -> SlowWatch {
-        SlowWatch {
+    pub(crate) fn new(alloc: Global, patterns: Patterns) -> Result<SlowWatch, AllocError> {
+        let graph = PlainGraph::new(alloc, &Limits::standard());
+        let found = all_of_each(alloc, &patterns, &graph)?;
+        Ok(SlowWatch {
             alloc,
-            graph: PlainGraph::new(alloc, &Limits::standard()),
+            graph,
             patterns,
+            found,
             lines: 0,
             accepted: 0,
             refused: 0,
-        }
+        })
     }
 
     /// Takes a line, of which one byte 13 at its end is dropped, and writes its block.
@@ -51,33 +57,20 @@ impl SlowWatch {
     }
 
     fn change(&mut self, update: &Update, report: &mut Vec<u8>) -> Result<(), AllocError> {
-        let before = self.embeddings()?;
         if let Err(code) = self.graph.apply(update)? {
             return self.refuse(code, report);
         }
         self.accepted = self.accepted.saturating_add(1);
-        let after = self.embeddings()?;
-        self.write_changes(&before, &after, report)
-    }
-
-    /// All embeddings of each pattern, in ascending order.
-    fn embeddings(&self) -> Result<Vec<Maps>, AllocError> {
-        let mut all = Vec::new(self.alloc);
-        for k in 0..self.patterns.count() {
-            all.push(plain_all(self.alloc, self.patterns.get(k), &self.graph)?)?;
-        }
-        Ok(all)
+        let found = all_of_each(self.alloc, &self.patterns, &self.graph)?;
+        self.write_changes(&found, report)?;
+        self.found = found;
+        Ok(())
     }
 
     /// Writes, pattern by pattern, what was gained and then what was lost.
-    fn write_changes(
-        &self,
-        before: &[Maps],
-        after: &[Maps],
-        report: &mut Vec<u8>,
-    ) -> Result<(), AllocError> {
+    fn write_changes(&self, found: &[Maps], report: &mut Vec<u8>) -> Result<(), AllocError> {
         for k in 0..self.patterns.count() {
-            let (Some(old), Some(new)) = (before.get(k), after.get(k)) else {
+            let (Some(old), Some(new)) = (self.found.get(k), found.get(k)) else {
                 return Ok(());
             };
             let pattern = self.patterns.get(k);
@@ -106,6 +99,19 @@ impl SlowWatch {
         }
         Ok(())
     }
+}
+
+/// All embeddings of each pattern in the graph, in ascending order.
+fn all_of_each(
+    alloc: Global,
+    patterns: &Patterns,
+    graph: &PlainGraph,
+) -> Result<Vec<Maps>, AllocError> {
+    let mut found = Vec::new(alloc);
+    for k in 0..patterns.count() {
+        found.push(plain_all(alloc, patterns.get(k), graph)?)?;
+    }
+    Ok(found)
 }
 
 /// The line without one byte 13 at its end.
