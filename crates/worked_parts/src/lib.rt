@@ -2,14 +2,16 @@
 //!
 //! - `texts`: graphs, patterns, updates and trees of texts. `unmade`: why a text makes none.
 //! - `shapes`: the texts of patterns that several tables share.
-//! - `states`: whether the states of pairs are those of a table.
+//! - `states`: whether the states of pairs are those of a table. `maps`: whether maps are.
 #![tactic(auto)]
 
+mod maps;
 pub mod shapes;
 mod states;
 mod texts;
 mod unmade;
 
+pub use maps::are_maps;
 pub use states::{has_live_counts, has_states};
 pub use texts::{first, graph_of, patterns_of, tree_of, update_of};
 pub use unmade::Unmade;

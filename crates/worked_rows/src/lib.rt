@@ -1,7 +1,8 @@
 //! Worked rows: what the crates of the index answer over small graphs, worked out by hand from the definitions.
 //!
 //! There are tests alone here. Each goes over a table, and each public call of those crates is met once. What searches has its rows
-//! in `worked_searches`, and what moves the states with the graph in `worked_updates`.
+//! in `worked_searches`, a registry of many patterns in `worked_registry`, and what moves the states with the graph in
+//! `worked_updates`.
 //!
 //! - `card_rows`: how often the edges and vertices of a pattern fit. `all_card_rows`: those of many patterns at once.
 //! - `tree_rows`: the tree that cards choose. `order_rows`: the order in which a search goes along it.

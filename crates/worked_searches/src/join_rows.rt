@@ -1,12 +1,13 @@
 //! What is asked of one candidate of a search, worked out by hand.
+ghost use Rattle.std.specs.Prelude.{◌≡◌, ◌≤◌, length};
 ghost use Rattle.flux_model.specs.Tree.{BelongsTo};
 
-use flux_model::{Mode, Partial, Pattern, Steps, Tally, Text, Triple};
-use label_graph::LabelGraph;
+use crate::finds::triple_of;
+use flux_model::{Mode, Partial, Pattern, Steps, Tally};
+use graph_traits::ReadGraph;
 use nontree_test::{earlier, free, joins, label_numbers};
 use query_tree::QueryTree;
 use std::alloc::Global;
-use std::process::Abort;
 use std::test::Fail;
 use worked_parts::shapes::{HOOK, TRIANGLE};
 use worked_parts::{Unmade, first, graph_of, patterns_of, tree_of};
@@ -61,47 +62,58 @@ const ROWS: [Row; 2] = [
     },
 ];
 
-/// Whether what is told of the candidates of a row is as it should be.
-fn is_right(rt: &impl Abort, alloc: Global, row: &Row) -> Result<bool, Unmade> {
-    let graph = graph_of(alloc, row.graph)?;
-    let patterns = patterns_of(alloc, row.pattern)?;
-    let pattern = first(&patterns)?;
-    let tree = tree_of(alloc, pattern, row.edges, row.vertices)?;
-    for i in 0..row.cases.len() {
-        if !joins_as(rt, alloc, pattern, &tree, &graph, &row.cases[i])? {
-            return Ok(false);
-        }
-    }
-    Ok(true)
-}
-
 /// Whether what is told of one candidate is as it should be.
-fn joins_as(
-    rt: &impl Abort,
-    alloc: Global,
+fn joins_as<G: ReadGraph<Tally>>(
     pattern: &Pattern,
     tree: &QueryTree,
-    graph: &LabelGraph,
+    graph: &G,
     case: &Case,
-) -> Result<bool, Unmade>
+) -> bool
     requires { BelongsTo pattern.now tree.now }
 {
     let ((u, id), (w, x), answer, reads) = *case;
     let count = pattern.vertex_count();
-    assert!(rt; u < count && w < count);
+    if u >= count || w >= count || u == w {
+        return false;
+    }
     let mut partial = Partial::new(count);
     partial.put(u, id);
-    assert!(rt; partial.get(w).is_none());
     let numbers = label_numbers(pattern, graph);
     let mut steps = Steps::new(Tally::new());
     let joined = joins(pattern, tree, &numbers, &partial, w, x, graph, &mut steps);
-    Ok(joined == answer && steps.ledger().read() == reads)
+    joined == answer && steps.ledger().read() == reads
+}
+
+/// Whether what is told of each candidate is as it should be.
+fn joins_each<G: ReadGraph<Tally>>(
+    pattern: &Pattern,
+    tree: &QueryTree,
+    graph: &G,
+    cases: &[Case],
+) -> bool
+    requires { BelongsTo pattern.now tree.now }
+{
+    for i in 0..cases.len() {
+        if !joins_as(pattern, tree, graph, &cases[i]) {
+            return false;
+        }
+    }
+    true
+}
+
+/// Whether what is told of the candidates of a row is as it should be.
+fn is_right(alloc: Global, row: &Row) -> Result<bool, Unmade> {
+    let graph = graph_of(alloc, row.graph)?;
+    let patterns = patterns_of(alloc, row.pattern)?;
+    let pattern = first(&patterns)?;
+    let tree = tree_of(alloc, pattern, row.edges, row.vertices)?;
+    Ok(joins_each(pattern, &tree, &graph, row.cases))
 }
 
 /// How many rows, from the first on, are as they should be.
-fn count_right(rt: &impl Abort, alloc: Global, rows: &[Row]) -> Result<usize, Unmade> {
+fn count_right(alloc: Global, rows: &[Row]) -> Result<usize, Unmade> {
     for i in 0..rows.len() {
-        if !is_right(rt, alloc, &rows[i])? {
+        if !is_right(alloc, &rows[i])? {
             return Ok(i);
         }
     }
@@ -110,7 +122,7 @@ fn count_right(rt: &impl Abort, alloc: Global, rows: &[Row]) -> Result<usize, Un
 
 #[test]
 fn candidates_beside_a_given_id(rt: HostRuntime) -> Result<(), Fail> {
-    assert_eq!(rt; count_right(&rt, rt.alloc(), &ROWS)?, ROWS.len());
+    assert_eq!(rt; count_right(rt.alloc(), &ROWS)?, ROWS.len());
     Ok(())
 }
 
@@ -123,14 +135,23 @@ const FREE: [(Mode, u32, bool); 5] = [
     (Mode::Iso, 4, true),
 ];
 
+/// How many rows, from the first on, are told as they should be.
+fn count_free_so(partial: &Partial, rows: &[(Mode, u32, bool)]) -> usize {
+    for i in 0..rows.len() {
+        let (mode, x, is_free) = rows[i];
+        if free(mode, partial, x) != is_free {
+            return i;
+        }
+    }
+    rows.len()
+}
+
 #[test]
 fn an_id_is_given_twice_in_mode_hom_alone(rt: HostRuntime) {
     let mut partial = Partial::new(3);
     partial.put(0, 1);
     partial.put(2, 5);
-    for (mode, x, is_free) in FREE {
-        assert!(rt; free(mode, &partial, x) == is_free, "{x}");
-    }
+    assert_eq!(rt; count_free_so(&partial, &FREE), FREE.len());
 }
 
 /// A pattern, how many of its edges are looked at, a vertex that has an id, a candidate beside it, a triple of the label `r`,
@@ -155,28 +176,50 @@ const SENT: [Sent; 11] = [
     (HOOK, 1, (0, 5), (1, 1), (1, 1), false),
 ];
 
-/// Compares whether an edge is sent.
-fn check_sent(rt: &impl Abort, alloc: Global, row: &Sent) -> Result<(), Unmade> {
-    let (text, number, (u, id), (w, x), (src, dst), is_sent) = *row;
+/// Whether such a triple of this label is told to be sent.
+fn is_sent(
+    alloc: Global,
+    pattern: &Pattern,
+    number: usize,
+    partial: &Partial,
+    given: Given,
+    ends: (u32, u32),
+    label: &'static str,
+) -> Result<bool, Unmade>
+    requires edges { number ≤ length pattern.now.edges }
+    requires places { length partial.now ≡ length pattern.now.labels }
+{
+    let triple = triple_of(alloc, (ends.0, label, ends.1))?;
+    Ok(earlier(pattern, number, partial, given.0, given.1, &triple))
+}
+
+/// Whether it is told as it should be whether an edge is sent, and none is sent to the triple of another label.
+fn is_sent_so(alloc: Global, row: &Sent) -> Result<bool, Unmade> {
+    let (text, number, (u, id), given, ends, answer) = *row;
     let patterns = patterns_of(alloc, text)?;
     let pattern = first(&patterns)?;
-    assert!(rt; number <= pattern.edge_count());
-    assert!(rt; u < pattern.vertex_count());
+    if number > pattern.edge_count() || u >= pattern.vertex_count() {
+        return Ok(false);
+    }
     let mut partial = Partial::new(pattern.vertex_count());
     partial.put(u, id);
-    let label = Text::from_bytes(alloc, b"r")?;
-    let triple = Triple { src, label, dst };
-    assert_eq!(rt; earlier(pattern, number, &partial, w, x, &triple), is_sent);
-    let label = Text::from_bytes(alloc, b"s")?;
-    let other = Triple { src, label, dst };
-    assert!(rt; !earlier(pattern, number, &partial, w, x, &other));
-    Ok(())
+    let sent = is_sent(alloc, pattern, number, &partial, given, ends, "r")?;
+    let other = is_sent(alloc, pattern, number, &partial, given, ends, "s")?;
+    Ok(sent == answer && !other)
+}
+
+/// How many rows, from the first on, are told as they should be.
+fn count_sent_so(alloc: Global, rows: &[Sent]) -> Result<usize, Unmade> {
+    for i in 0..rows.len() {
+        if !is_sent_so(alloc, &rows[i])? {
+            return Ok(i);
+        }
+    }
+    Ok(rows.len())
 }
 
 #[test]
 fn edges_of_a_lower_number_that_are_sent(rt: HostRuntime) -> Result<(), Fail> {
-    for row in &SENT {
-        check_sent(&rt, rt.alloc(), row)?;
-    }
+    assert_eq!(rt; count_sent_so(rt.alloc(), &SENT)?, SENT.len());
     Ok(())
 }

@@ -1,9 +1,9 @@
 //! Maps and deltas, made, sorted and compared with lists by hand.
-use crate::maps::are_maps;
 use flux_model::{Delta, Deltas, Map, Maps};
 use std::alloc::{AllocError, Global};
 use std::process::Abort;
 use std::test::Fail;
+use worked_parts::are_maps;
 
 fn map_of(alloc: Global, ids: &[u32]) -> Result<Map, AllocError> {
     let mut map = Map::new(alloc);

@@ -1,13 +1,17 @@
 //! Registries, worked out by hand.
 ghost use Rattle.std.specs.Prelude.{◌≡◌, ◌<◌, length, false};
+ghost use Rattle.pattern_registry.specs.States.{AreExact};
 
-use crate::maps::are_maps;
-use flux_model::{Deltas, Steps, Tally};
+use flux_model::{Deltas, Ledger, Steps, Tally};
+use graph_traits::ReadGraph;
 use pattern_registry::Registry;
-use std::alloc::Global;
+use std::alloc::{AllocError, Global};
 use std::test::Fail;
 use worked_parts::shapes::{LABELLED_CHAIN, TRIANGLE};
-use worked_parts::{Unmade, graph_of, patterns_of};
+use worked_parts::{Unmade, are_maps, graph_of, patterns_of};
+
+/// A pattern, and the lists of ids that it gains, in ascending order.
+type Gained = (usize, &'static [&'static [u32]]);
 
 /// A registry of patterns over a graph.
 #[derive(Clone, Copy)]
@@ -17,7 +21,7 @@ struct Row {
     /// The root of the tree of each pattern, and how many rows are kept of it.
     kept: &'static [(usize, u64)],
     /// The patterns that have embeddings, with these.
-    answers: &'static [(usize, &'static [&'static [u32]])],
+    answers: &'static [Gained],
 }
 
 const CIRCLE: &str = "v 1\nv 2\nv 3\ne 1 2 r\ne 2 3 r\ne 3 1 r";
@@ -59,9 +63,21 @@ fn is_right(alloc: Global, row: &Row) -> Result<bool, Unmade> {
     let patterns = patterns_of(alloc, row.patterns)?;
     let mut steps = Steps::new(Tally::new());
     let registry = Registry::start(alloc, patterns, &graph, &mut steps)?;
-    let mut answers = registry.answers(&graph, &mut steps)?;
+    Ok(answers_so(&registry, &graph, row.answers, &mut steps)? && keeps(&registry, row.kept))
+}
+
+/// Whether the registry answers this.
+fn answers_so<G: ReadGraph<L>, L: Ledger>(
+    registry: &Registry,
+    graph: &G,
+    due: &[Gained],
+    steps: &mut Steps<L>,
+) -> Result<bool, AllocError>
+    requires { AreExact registry.now (G.graph graph.now) }
+{
+    let mut answers = registry.answers(graph, steps)?;
     answers.sort()?;
-    Ok(are_answers(&answers, row.answers) && keeps(&registry, row.kept))
+    Ok(are_answers(&answers, due))
 }
 
 /// Whether the registry keeps these trees and rows.
@@ -87,7 +103,7 @@ fn keeps_at(registry: &Registry, k: usize, root: usize, stored: u64) -> bool
 }
 
 /// Whether these are gained, and nothing is lost.
-fn are_answers(deltas: &Deltas, answers: &[(usize, &[&[u32]])]) -> bool {
+fn are_answers(deltas: &Deltas, answers: &[Gained]) -> bool {
     if deltas.len() != answers.len() {
         return false;
     }

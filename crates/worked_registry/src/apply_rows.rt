@@ -2,14 +2,13 @@
 ghost use Rattle.std.specs.Prelude.{OnOk};
 ghost use Rattle.pattern_registry.specs.States.{AreExact};
 
-use crate::maps::are_maps;
 use flux_model::{Code, Deltas, Ledger, Steps, Tally, Update};
 use graph_traits::{KeepGraph, ReadGraph};
 use pattern_registry::Registry;
 use std::alloc::{AllocError, Global};
 use std::test::Fail;
 use worked_parts::shapes::TRIANGLE;
-use worked_parts::{Unmade, graph_of, patterns_of, update_of};
+use worked_parts::{Unmade, are_maps, graph_of, patterns_of, update_of};
 
 /// Lists of ids, in ascending order.
 type Lists = &'static [&'static [u32]];

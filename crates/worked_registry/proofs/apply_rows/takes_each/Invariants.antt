@@ -1,5 +1,5 @@
 use Rattle.pattern_registry.specs.States.{AreExact}
-use Rattle.worked_searches.proofs.apply_rows.takes_each.Given as goal
+use Rattle.worked_registry.proofs.apply_rows.takes_each.Given as goal
 
 -- the rows of the patterns are exact
 abbrev pub invariant-loop-i : goal.invariant-loop-i

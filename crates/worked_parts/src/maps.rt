@@ -2,7 +2,7 @@
 use flux_model::{Map, Maps};
 
 /// Whether the maps are these lists of ids.
-pub(crate) fn are_maps(maps: &Maps, expected: &[&[u32]]) -> bool {
+pub fn are_maps(maps: &Maps, expected: &[&[u32]]) -> bool {
     if maps.len() != expected.len() {
         return false;
     }
