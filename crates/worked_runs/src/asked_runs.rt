@@ -3,7 +3,6 @@ use crate::play::{GRAPH, Lower, MATCH, Run, SAVE, WATCH, end_of, limits_of, shel
 use flux_model::Code;
 use flux_outside::{Failed, MemShelf, MemSink, MemSource, Shelf, Sink, Source};
 use std::alloc::{AllocError, Global};
-use std::process::Abort;
 use std::test::Fail;
 use watch_cli::Status;
 
@@ -231,9 +230,11 @@ const ROWS: [Row; 10] = [
 ];
 
 /// Whether the run of a row ends and makes its calls as it should.
-fn is_right(rt: &impl Abort, alloc: Global, row: &Row) -> Result<bool, AllocError> {
+fn is_right(alloc: Global, row: &Row) -> Result<bool, AllocError> {
     let limits = limits_of(row.run.lower);
-    assert!(rt; limits.fair());
+    if !limits.fair() {
+        return Ok(false);
+    }
     let words = words_of(alloc, row.run.words)?;
     let mut shelf = noting_shelf(alloc, &row.run)?;
     let mut updates = noting_source(alloc, &row.run)?;
@@ -286,9 +287,9 @@ fn noting_source(alloc: Global, run: &Run) -> Result<NotingSource, AllocError> {
 }
 
 /// How many rows, from the first on, are as they should be.
-fn count_right(rt: &impl Abort, alloc: Global, rows: &[Row]) -> Result<usize, AllocError> {
+fn count_right(alloc: Global, rows: &[Row]) -> Result<usize, AllocError> {
     for i in 0..rows.len() {
-        if !is_right(rt, alloc, &rows[i])? {
+        if !is_right(alloc, &rows[i])? {
             return Ok(i);
         }
     }
@@ -297,6 +298,6 @@ fn count_right(rt: &impl Abort, alloc: Global, rows: &[Row]) -> Result<usize, Al
 
 #[test]
 fn what_runs_ask_and_put(rt: HostRuntime) -> Result<(), Fail> {
-    assert_eq!(rt; count_right(&rt, rt.alloc(), &ROWS)?, ROWS.len());
+    assert_eq!(rt; count_right(rt.alloc(), &ROWS)?, ROWS.len());
     Ok(())
 }

@@ -1,5 +1,5 @@
 //! Runs of `watch` that end early, and of words of no shape.
-use crate::play::{Lower, Run, WATCH, play_all};
+use crate::play::{Lower, Run, WATCH, count_right};
 use flux_model::Code;
 use std::test::Fail;
 use watch_cli::Status;
@@ -46,7 +46,7 @@ const NO_SHAPES: [Run; 7] = [
 
 #[test]
 fn words_of_no_shape(rt: HostRuntime) -> Result<(), Fail> {
-    play_all(&rt, rt.alloc(), &NO_SHAPES)?;
+    assert_eq!(rt; count_right(rt.alloc(), &NO_SHAPES)?, NO_SHAPES.len());
     Ok(())
 }
 
@@ -156,7 +156,10 @@ const REFUSED_FILES: [Run; 10] = [
 
 #[test]
 fn refused_files(rt: HostRuntime) -> Result<(), Fail> {
-    play_all(&rt, rt.alloc(), &REFUSED_FILES)?;
+    assert_eq!(rt;
+        count_right(rt.alloc(), &REFUSED_FILES)?,
+        REFUSED_FILES.len()
+    );
     Ok(())
 }
 
@@ -214,6 +217,6 @@ const FAULTS: [Run; 6] = [
 
 #[test]
 fn faults_and_limits(rt: HostRuntime) -> Result<(), Fail> {
-    play_all(&rt, rt.alloc(), &FAULTS)?;
+    assert_eq!(rt; count_right(rt.alloc(), &FAULTS)?, FAULTS.len());
     Ok(())
 }

@@ -1,5 +1,5 @@
 //! Runs of `match`.
-use crate::play::{Lower, MATCH, Run, play_all};
+use crate::play::{Lower, MATCH, Run, count_right};
 use flux_model::Code;
 use std::test::Fail;
 use watch_cli::Status;
@@ -84,6 +84,6 @@ const ROWS: [Run; 9] = [
 
 #[test]
 fn answers_and_refusals(rt: HostRuntime) -> Result<(), Fail> {
-    play_all(&rt, rt.alloc(), &ROWS)?;
+    assert_eq!(rt; count_right(rt.alloc(), &ROWS)?, ROWS.len());
     Ok(())
 }

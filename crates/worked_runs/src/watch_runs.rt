@@ -1,5 +1,5 @@
 //! Runs of `watch` to their end.
-use crate::play::{Lower, PATTERN, Run, WATCH, play, play_all};
+use crate::play::{Lower, PATTERN, Run, WATCH, count_right, is_right};
 use std::test::Fail;
 
 const ONE_PATTERN: [Run; 8] = [
@@ -47,7 +47,7 @@ const ONE_PATTERN: [Run; 8] = [
 
 #[test]
 fn one_pattern_with_labels(rt: HostRuntime) -> Result<(), Fail> {
-    play_all(&rt, rt.alloc(), &ONE_PATTERN)?;
+    assert_eq!(rt; count_right(rt.alloc(), &ONE_PATTERN)?, ONE_PATTERN.len());
     Ok(())
 }
 
@@ -109,7 +109,10 @@ const MANY_PATTERNS: [Run; 7] = [
 
 #[test]
 fn many_patterns_in_both_modes(rt: HostRuntime) -> Result<(), Fail> {
-    play_all(&rt, rt.alloc(), &MANY_PATTERNS)?;
+    assert_eq!(rt;
+        count_right(rt.alloc(), &MANY_PATTERNS)?,
+        MANY_PATTERNS.len()
+    );
     Ok(())
 }
 
@@ -150,7 +153,10 @@ const VERTICES_AND_REFUSALS: [Run; 5] = [
 
 #[test]
 fn vertices_and_refused_lines(rt: HostRuntime) -> Result<(), Fail> {
-    play_all(&rt, rt.alloc(), &VERTICES_AND_REFUSALS)?;
+    assert_eq!(rt;
+        count_right(rt.alloc(), &VERTICES_AND_REFUSALS)?,
+        VERTICES_AND_REFUSALS.len()
+    );
     Ok(())
 }
 
@@ -169,6 +175,6 @@ fn long_lines_and_wide_numbers(rt: HostRuntime) -> Result<(), Fail> {
     updates.extend_from_slice(b"\r\n-e 1 2 r")?;
     updates.extend_from_slice(&spaces)?;
     updates.extend_from_slice(b"\nv 4294967295\nv 4294967296\nv 00000000003\n")?;
-    play(&rt, rt.alloc(), &LONG, &updates)?;
+    assert!(rt; is_right(rt.alloc(), &LONG, &updates)?);
     Ok(())
 }
