@@ -168,39 +168,3 @@ impl<'a, R: Files> Shelf for FileShelf<'a, R> {
         }
     }
 }
-
-#[cfg(test)]
-mod tests {
-    use super::*;
-    use std::test::Fail;
-
-    #[test]
-    fn files_by_name(rt: HostRuntime) -> Result<(), Fail> {
-        std::fs::write(&rt, "here", b"hello")?;
-        let mut buf = [0; 4];
-        let mut shelf = FileShelf::new(rt.alloc(), &rt);
-        assert_eq!(rt; shelf.read("here", 0, &mut buf), Ok(Some(4)));
-        assert_eq!(rt; buf, *b"hell");
-        assert_eq!(rt; shelf.read("here", 4, &mut buf), Ok(Some(1)));
-        assert_eq!(rt; buf[0], b'o');
-        assert_eq!(rt; shelf.read("here", 5, &mut buf), Ok(Some(0)));
-        assert_eq!(rt; shelf.read("there", 0, &mut buf), Ok(None));
-        assert_eq!(rt; shelf.read(".", 0, &mut buf), Err(Failed));
-        Ok(())
-    }
-
-    #[test]
-    fn an_open_file_is_read_to_its_end(rt: HostRuntime) -> Result<(), Fail> {
-        std::fs::write(&rt, "here", b"hello")?;
-        std::fs::write(&rt, "other", b"HELLO")?;
-        let mut buf = [0; 2];
-        let mut shelf = FileShelf::new(rt.alloc(), &rt);
-        assert_eq!(rt; shelf.read("here", 0, &mut buf), Ok(Some(2)));
-        std::fs::rename(&rt, "other", "here")?;
-        for (from, expected) in [(2, *b"ll"), (1, *b"EL"), (3, *b"LO"), (0, *b"HE")] {
-            assert_eq!(rt; shelf.read("here", from, &mut buf), Ok(Some(2)));
-            assert_eq!(rt; buf, expected, "from {from}");
-        }
-        Ok(())
-    }
-}

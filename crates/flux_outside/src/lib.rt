@@ -19,8 +19,6 @@
 mod buffers;
 mod calls;
 mod counts;
-#[cfg(test)]
-mod fakes;
 mod file_shelf;
 mod mem_shelf;
 mod mem_sink;

@@ -156,27 +156,3 @@ impl Shelf for MemShelf {
         Ok(Some(count))
     }
 }
-
-#[cfg(test)]
-mod tests {
-    use super::*;
-    use std::test::Fail;
-
-    #[test]
-    fn files_by_name(rt: HostRuntime) -> Result<(), Fail> {
-        let mut shelf = MemShelf::new(rt.alloc());
-        shelf.add("graph", b"v 1")?;
-        shelf.add("patterns", b"p a hom")?;
-        shelf.add("graph", b"v 2\n")?;
-        shelf.fail_at(0)?;
-        let mut buf = [0; 4];
-        assert_eq!(rt; shelf.read("graph", 0, &mut buf), Err(Failed));
-        assert_eq!(rt; shelf.read("graph", 0, &mut buf), Ok(Some(4)));
-        assert_eq!(rt; buf, *b"v 2\n");
-        assert_eq!(rt; shelf.read("patterns", 4, &mut buf), Ok(Some(3)));
-        assert_eq!(rt; &buf[..3], b"hom".as_slice());
-        assert_eq!(rt; shelf.read("graph", 4, &mut buf), Ok(Some(0)));
-        assert_eq!(rt; shelf.read("updates", 0, &mut buf), Ok(None));
-        Ok(())
-    }
-}

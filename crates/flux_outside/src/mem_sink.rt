@@ -79,22 +79,3 @@ impl Sink for MemSink {
         Err(count_fault(&mut self.faults))
     }
 }
-
-#[cfg(test)]
-mod tests {
-    use super::*;
-    use std::test::Fail;
-
-    #[test]
-    fn keeps_what_fits(rt: HostRuntime) -> Result<(), Fail> {
-        let mut sink = MemSink::new(rt.alloc(), 4)?;
-        assert_eq!(rt; sink.put(b"+ 1 ab 1 2\n"), Err(Failed));
-        assert_eq!(rt; sink.bytes(), b"+ 1 ".as_slice());
-        assert_eq!(rt; sink.put(b""), Ok(()));
-        let mut sink = MemSink::new(rt.alloc(), 4)?;
-        assert_eq!(rt; sink.put(b"ab"), Ok(()));
-        assert_eq!(rt; sink.put(b"cd"), Ok(()));
-        assert_eq!(rt; sink.bytes(), b"abcd".as_slice());
-        Ok(())
-    }
-}

@@ -121,23 +121,3 @@ impl Source for MemSource {
         Ok(count)
     }
 }
-
-#[cfg(test)]
-mod tests {
-    use super::*;
-    use std::test::Fail;
-
-    #[test]
-    fn reads_in_pieces(rt: HostRuntime) -> Result<(), Fail> {
-        let mut source = MemSource::new(rt.alloc(), b"abcdef", &[0, 2], &[2])?;
-        let mut buf = [0; 8];
-        assert_eq!(rt; source.read(&mut buf), Ok(1));
-        assert_eq!(rt; buf[0], b'a');
-        assert_eq!(rt; source.read(&mut buf), Ok(2));
-        assert_eq!(rt; source.read(&mut buf), Err(Failed));
-        assert_eq!(rt; source.read(&mut buf), Ok(3));
-        assert_eq!(rt; &buf[..3], b"def".as_slice());
-        assert_eq!(rt; source.read(&mut buf), Ok(0));
-        Ok(())
-    }
-}

@@ -67,35 +67,3 @@ impl<W: Write + Drop> Sink for StderrSink<W> {
         }
     }
 }
-
-#[cfg(test)]
-mod tests {
-    use super::*;
-    use crate::fakes::{FullWriter, SlowWriter};
-
-    #[test]
-    fn whole_pieces_are_written(rt: HostRuntime) {
-        for (write_interrupts, answer, taken) in [
-            (0, Ok(()), b"abc".as_slice()),
-            (16, Ok(()), b"abc".as_slice()),
-            (17, Err(Failed), b"".as_slice()),
-        ] {
-            let writer = SlowWriter {
-                taken: Vec::new(rt.alloc()),
-                flushed: 0,
-                write_interrupts,
-                flush_interrupts: 0,
-                waited: 0,
-            };
-            let mut sink = StderrSink::new(writer);
-            assert_eq!(rt; sink.put(b"abc"), answer, "at {write_interrupts}");
-            assert_eq!(rt; sink.writer.taken.as_slice(), taken);
-        }
-    }
-
-    #[test]
-    fn a_write_that_takes_nothing_is_a_fault(rt: HostRuntime) {
-        let mut sink = StderrSink::new(FullWriter);
-        assert_eq!(rt; sink.put(b"abc"), Err(Failed));
-    }
-}

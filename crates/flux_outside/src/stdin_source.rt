@@ -76,18 +76,3 @@ impl<R: Read + Drop> Source for StdinSource<R> {
         }
     }
 }
-
-#[cfg(test)]
-mod tests {
-    use super::*;
-    use crate::fakes::FlakyReader;
-
-    #[test]
-    fn sixteen_interruptions_are_borne(rt: HostRuntime) {
-        for (interrupts, answer) in [(0, Ok(1)), (16, Ok(1)), (17, Err(Failed))] {
-            let mut buf = [0; 4];
-            let mut source = StdinSource::new(FlakyReader { interrupts });
-            assert_eq!(rt; source.read(&mut buf), answer, "at {interrupts}");
-        }
-    }
-}

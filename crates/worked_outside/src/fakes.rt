@@ -1,4 +1,4 @@
-// Readers and writers for the tests.
+//! Readers and writers that are interrupted, or take nothing.
 use std::io;
 use std::io::{ErrorKind, Read, Write};
 
