@@ -8,4 +8,3 @@ pub mod StateLemmas
 pub mod BoundLemmas
 pub mod LiveLemmas
 pub mod CallerLemmas
-pub mod ExampleLemmas

@@ -11,7 +11,5 @@
 
 mod dcg;
 mod layer;
-#[cfg(test)]
-mod tests;
 
 pub use dcg::Dcg;

@@ -7,13 +7,15 @@
 //! - `card_rows`: how often the edges and vertices of a pattern fit. `all_card_rows`: those of many patterns at once.
 //! - `tree_rows`: the tree that cards choose. `order_rows`: the order in which a search goes along it.
 //! - `walk_rows`: the row of a vertex, as it is walked, and the branches of a tree.
-//! - `state_rows`: the states of pairs over a graph.
+//! - `state_rows`: the states of pairs over a graph. `counter_rows`: rows of counters, as joints come and go one by one.
 #![tactic(auto)]
 
 #[cfg(test)]
 mod all_card_rows;
 #[cfg(test)]
 mod card_rows;
+#[cfg(test)]
+mod counter_rows;
 #[cfg(test)]
 mod order_rows;
 #[cfg(test)]

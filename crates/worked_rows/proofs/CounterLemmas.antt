@@ -1,12 +1,12 @@
--- The rows of the examples, after each move.
+-- A row of counters, after each move of one.
 use Rattle.std.proofs.Common.{◌≡◌, ℕ, true, false, cond, List, sym, ap, subst, ◌∙◌}
 use Rattle.std.specs.Prelude.{Option, None, Some, is_some, IsSomeAnd, slice_index}
 use Rattle.std.specs.Option.{option_map, option_map_or, ForSome}
 use Rattle.std.specs.FinMap.{empty, get-empty}
 use Rattle.flux_model.specs.Exact.{Row, StateRows, pair_cmp, row_at}
-use Rattle.dcg_store.specs.Counters.{first_row, more_ins, more_outs}
-use Rattle.dcg_store.specs.Moves.{in_raised, out_raised}
-use Rattle.dcg_store.proofs.CallerLemmas.{is_pair, row_at-in_raised, row_at-out_raised}
+use Rattle.dcg_store.specs.Counters.{first_row, more_ins, more_outs, fewer_outs}
+use Rattle.dcg_store.specs.Moves.{in_raised, in_lowered, out_raised, out_lowered}
+use Rattle.dcg_store.proofs.CallerLemmas.{is_pair, left_of, row_at-in_raised, row_at-in_lowered, row_at-out_raised, row_at-out_lowered}
 
 -- what holds of the row of u and v
 abbrev pub HasRow : StateRows → ℕ → ℕ → Option Row → Type 0
@@ -26,6 +26,10 @@ module _ (old new : StateRows) (u v x y : ℕ) where
       ap (λ r. row_at r x y) e ∙ row_at-in_raised old u v x y ∙ ap (λ b. cond b (Some (option_map_or more_ins (row_at old u v) (first_row (slice_index old.children u)))) (row_at old x y)) here
       ∙ ap (λ o. Some (option_map_or more_ins o (first_row (slice_index old.children u)))) was
 
+  pub row_loses_in : (row : Row) → is_pair u v x y ≡ true → new ≡ in_lowered old u v → HasRow old u v (Some row) → HasRow new x y (left_of (Some row))
+  row_loses_in row here e was =
+      ap (λ r. row_at r x y) e ∙ row_at-in_lowered old u v x y ∙ ap (λ b. cond b (left_of (row_at old u v)) (row_at old x y)) here ∙ ap left_of was
+
   pub row_stays : (o : Option Row) → is_pair u v x y ≡ false → new ≡ in_raised old u v → HasRow old x y o → HasRow new x y o
   row_stays o apart e was =
       ap (λ r. row_at r x y) e ∙ row_at-in_raised old u v x y ∙ ap (λ b. cond b (Some (option_map_or more_ins (row_at old u v) (first_row (slice_index old.children u)))) (row_at old x y)) apart ∙ was
@@ -33,6 +37,10 @@ module _ (old new : StateRows) (u v x y : ℕ) where
   pub row_gains_out : (j : ℕ) (row : Row) → is_pair u v x y ≡ true → new ≡ out_raised old u v j → HasRow old u v (Some row) → HasRow new x y (Some (more_outs j row))
   row_gains_out j row here e was =
       ap (λ r. row_at r x y) e ∙ row_at-out_raised old u v x y j ∙ ap (λ b. cond b (option_map (more_outs j) (row_at old u v)) (row_at old x y)) here ∙ ap (option_map (more_outs j)) was
+
+  pub row_loses_out : (j : ℕ) (row : Row) → is_pair u v x y ≡ true → new ≡ out_lowered old u v j → HasRow old u v (Some row) → HasRow new x y (Some (fewer_outs j row))
+  row_loses_out j row here e was =
+      ap (λ r. row_at r x y) e ∙ row_at-out_lowered old u v x y j ∙ ap (λ b. cond b (option_map (fewer_outs j) (row_at old u v)) (row_at old x y)) here ∙ ap (option_map (fewer_outs j)) was
 
 -- ---- what the moves require
 
