@@ -3,3 +3,4 @@ pub mod CountLemmas
 pub mod GrownLemmas
 pub mod PassLemmas
 pub mod PlanLemmas
+pub mod StepLemmas

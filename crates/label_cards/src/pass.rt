@@ -1,5 +1,5 @@
 //! The pass over the vertices of a graph.
-ghost use Rattle.std.specs.Prelude.{◌≡◌, ◌<◌, length, map, slice_index, Some, IsTrue, IfOk, EachIndex};
+ghost use Rattle.std.specs.Prelude.{◌≡◌, ◌+◌, ◌*◌, ◌<◌, ◌≤◌, length, map, slice_index, Some, IsTrue, IfOk, EachIndex};
 ghost use Rattle.flux_model.specs.Graph.{has_vertex, IsGraph};
 ghost use Rattle.graph_traits.specs.Rows.{vertex_of_id};
 ghost use Rattle.label_cards.specs.Counted.{vertex_adds, cards_at, AreCounts, AreFits, GrownBy, HasPlaces, HasRoom};
@@ -20,6 +20,8 @@ pub(crate) struct Counts {
 
 impl Counts {
     /// The counts of a plan over a graph, which has the numbers that the plan has for labels.
+    ///
+    /// It takes three steps for each vertex, and for each triple one and at most one for each test.
     pub(crate) fn of<G: ReadGraph<L>, L: Ledger>(
         alloc: Global,
         graph: &G,
@@ -27,7 +29,9 @@ impl Counts {
         steps: &mut Steps<L>,
     ) -> Result<Counts, AllocError>
         requires { IsPlan (G.label_text graph.now) plan.now }
-        ensures { IfOk result (λ counts. AreCounts (G.label_text graph.now) (G.graph graph.now) plan.now counts) }
+        ensures counts { IfOk result (λ counts. AreCounts (G.label_text graph.now) (G.graph graph.now) plan.now counts) }
+        ensures steps { let g = G.graph graph.now in
+            steps.new ≤ steps.old + 3 * length g.vertices + length g.triples * (1 + length plan.now.tests.items) }
     {
         let mut tests = vec![in alloc; 0; plan.tests.len()]?;
         let mut sets = vec![in alloc; 0; plan.sets.len()]?;
@@ -81,6 +85,7 @@ fn count_vertex<G: ReadGraph<L>, L: Ledger>(
     requires room { HasRoom 1 counts.old }
     ensures fits { AreFits (G.graph graph.now) sets.now v fitted.new }
     ensures counts { GrownBy (vertex_adds (G.graph graph.now) sets.now v) counts.old counts.new }
+    ensures step { steps.new ≡ steps.old + 1 }
 {
     let labels = graph.labels_of(v, steps);
     for c in 0..sets.len() {

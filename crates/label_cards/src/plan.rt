@@ -1,5 +1,5 @@
 //! `Plan`: what a pass over a graph counts, for any number of patterns together.
-ghost use Rattle.std.specs.Prelude.{◌≡◌, ◌==◌, ◌||◌, not, ℕ, List, [], ◌∷◌, ◌++◌, length, slice_get, if◌then◌else◌};
+ghost use Rattle.std.specs.Prelude.{◌≡◌, ◌+◌, ◌≤◌, ◌==◌, ◌||◌, not, ℕ, List, [], ◌∷◌, ◌++◌, length, slice_get, if◌then◌else◌};
 ghost use Rattle.std.specs.Prelude.{Option, Some, None, IsTrue, IfOk, IfSome, OnOk};
 ghost use Rattle.label_cards.specs.declared.plan.TripleTest.{TripleTest};
 ghost use Rattle.label_cards.specs.Plans.{set_at, AreSetsKept, AreSetsOf, AreTestsKept, AreTestsOf};
@@ -67,7 +67,8 @@ pub(crate) struct Plan<'a> {
 impl<'a> Plan<'a> {
     /// The plan of no pattern.
     pub(crate) fn new(alloc: Global) -> Plan<'a>
-        ensures { (texts : ℕ → Option (List ℕ)) → IsPlan texts result }
+        ensures plan { (texts : ℕ → Option (List ℕ)) → IsPlan texts result }
+        ensures empty { result.tests.items ≡ [] }
     {
         Plan {
             sets: Vec::new(alloc),
@@ -86,6 +87,7 @@ impl<'a> Plan<'a> {
         requires { IsPlan (G.label_text graph.now) self.old }
         ensures plan { OnOk result (IsPlan (G.label_text graph.now) self.new) }
         ensures kept { OnOk result (IsKept self.old self.new) }
+        ensures few { OnOk result (length self.new.tests.items ≤ length self.old.tests.items + length pattern.now.edges) }
         ensures found { IfOk result (λ places. IsFound (G.label_text graph.now) (G.graph graph.now) self.new pattern.now places) }
     {
         let vertices = set_places(alloc, &mut self.sets, pattern)?;
@@ -106,6 +108,7 @@ impl<'a> Plan<'a> {
         requires long { length sets.now ≡ length pattern.now.labels }
         ensures plan { OnOk result (IsPlan (G.label_text graph.now) self.new) }
         ensures kept { OnOk result (AreTestsKept self.old.tests.items self.new.tests.items) }
+        ensures few { OnOk result (length self.new.tests.items ≤ length self.old.tests.items + length pattern.now.edges) }
         ensures sets { self.new.sets ≡ self.old.sets }
         ensures edges { IfOk result (λ places.
             AreTestsOf (G.label_text graph.now) (G.graph graph.now) self.new.tests.items sets.now pattern.now.edges places.items) }
@@ -132,6 +135,7 @@ impl<'a> Plan<'a> {
         ensures kept { OnOk result (AreTestsKept self.old.tests.items self.new.tests.items) }
         ensures fresh { OnOk result ((p : ℕ) (other : TripleTest) → slice_get self.new.tests.items p ≡ Some other
             → slice_get self.old.tests.items p ≡ None → other ≡ test) }
+        ensures few { OnOk result (length self.new.tests.items ≤ length self.old.tests.items + 1) }
         ensures sets { self.new.sets ≡ self.old.sets }
     {
         let Some(number) = test.label else {

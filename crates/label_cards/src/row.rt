@@ -1,5 +1,5 @@
 //! The pass over the out row of a vertex.
-ghost use Rattle.std.specs.Prelude.{◌≡◌, ◌+◌, ◌<◌, ◌^◌, ◌==◌, ◌&&◌, Some, length, slice_index, IsTrue};
+ghost use Rattle.std.specs.Prelude.{◌≡◌, ◌+◌, ◌*◌, ◌<◌, ◌≤◌, ◌^◌, ◌==◌, ◌&&◌, Some, length, slice_index, IsTrue};
 ghost use Rattle.std.specs.Prelude.{if◌then◌else◌};
 ghost use Rattle.flux_model.specs.Graph.{has_vertex};
 ghost use Rattle.flux_model.specs.declared.graph.Triple.{Triple};
@@ -14,6 +14,7 @@ use graph_traits::{HoldGraph, ReadGraph, Turn};
 
 /// Adds to the count of each test of the plan how many triples that begin at `v` pass it.
 ///
+/// It takes one step at the row's end, and for each triple one and at most one for each test.
 /// `fitted` has to tell which sets of the plan `v` fits.
 pub(crate) fn count_row<G: ReadGraph<L>, L: Ledger>(
     graph: &G,
@@ -28,7 +29,9 @@ pub(crate) fn count_row<G: ReadGraph<L>, L: Ledger>(
     requires fits { AreFits (G.graph graph.now) plan.now.sets.items v fitted.now }
     requires size { length counts.old ≡ length plan.now.tests.items }
     requires room { HasRoom (length (triples_from (G.graph graph.now) v)) counts.old }
-    ensures { GrownBy (row_adds (G.label_text graph.now) (G.graph graph.now) plan.now v) counts.old counts.new }
+    ensures counts { GrownBy (row_adds (G.label_text graph.now) (G.graph graph.now) plan.now v) counts.old counts.new }
+    ensures steps { let row = length (triples_from (G.graph graph.now) v) in
+        steps.new ≤ steps.old + 1 + row * (1 + length plan.now.tests.items) }
 {
     let row = WholeRow {
         vertex: v,
@@ -57,8 +60,9 @@ fn count_turn<G: ReadGraph<L>, L: Ledger>(
     requires fits { AreFits (G.graph graph.now) plan.now.sets.items v fitted.now }
     requires size { length counts.old ≡ length plan.now.tests.items }
     requires room { HasRoom 1 counts.old }
-    ensures { let triple : Triple = record { src = v; label = turn.now.label.now; dst = turn.now.other } in
+    ensures counts { let triple : Triple = record { src = v; label = turn.now.label.now; dst = turn.now.other } in
         GrownBy (triple_adds (G.label_text graph.now) (G.graph graph.now) plan.now triple) counts.old counts.new }
+    ensures steps { steps.new ≤ steps.old + length plan.now.tests.items }
 {
     let places = plan.row(turn.number);
     for place in places {
@@ -93,8 +97,9 @@ fn passes<G: ReadGraph<L>, L: Ledger>(
     requires number { G.label_text graph.now turn.now.number ≡ Some turn.now.label.now }
     requires end { IsTrue (has_vertex (G.graph graph.now) turn.now.other) }
     requires fits { AreFits (G.graph graph.now) plan.now.sets.items v fitted.now }
-    ensures { let triple : Triple = record { src = v; label = turn.now.label.now; dst = turn.now.other } in
+    ensures value { let triple : Triple = record { src = v; label = turn.now.label.now; dst = turn.now.other } in
         result ≡ passes (G.label_text graph.now) (G.graph graph.now) plan.now.sets.items test.now triple }
+    ensures steps { steps.new ≤ steps.old + 1 }
 {
     fitted[test.tail]
         && test.allows(v, turn.other)

@@ -22,7 +22,7 @@ const THREE: &str = "p a hom\nv 0 A\nv 1 B\ne 0 1 r\ne 1 1 r\ne 1 0 r\n\
 p b hom\nv 0\nv 1\ne 0 1 r\ne 1 1 r\ne 1 0 r\n\
 p c iso\nv 0 B\nv 1\ne 0 1 s\ne 0 1 t";
 
-const ROWS: [Row; 3] = [
+const ROWS: [Row; 4] = [
     // Reads: each vertex and its labels, each triple, the ends of three rows, and the heads. The two edges between vertices
     // without labels ask the same of a triple, so that a head is read once for both. No triple has the label `t`.
     Row {
@@ -46,6 +46,14 @@ const ROWS: [Row; 3] = [
         patterns: "p one hom\nv 0 A\nv 1\ne 0 1 r\np two hom\nv 0",
         edges: &[&[0], &[]],
         vertices: &[&[0, 0], &[0]],
+        most_reads: 0,
+    },
+    // Where there is no pattern, nothing is read.
+    Row {
+        graph: "v 1 A\nv 2\ne 1 2 r",
+        patterns: "",
+        edges: &[],
+        vertices: &[],
         most_reads: 0,
     },
 ];

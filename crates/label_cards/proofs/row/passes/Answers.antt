@@ -4,8 +4,8 @@ use Rattle.label_cards.proofs.CountLemmas.{set-here, head-decides}
 use Rattle.label_cards.proofs.row.passes.Goals as goal
 use Rattle.label_cards.proofs.row.passes.Goals.{then-fitted-test, else-fitted-test}
 
-pub returns-then-allows : goal.returns-then-allows
-returns-then-allows g c =
+pub returns-then-allows-clause-value : goal.returns-then-allows-clause-value
+returns-then-allows-clause-value g c =
     let texts = g.G.HoldGraph.label_text c.args.graph.now in
     let graph = g.G.HoldGraph.graph c.args.graph.now in
     let sets = c.args.plan.now.sets.items in

@@ -1,7 +1,8 @@
-use Rattle.std.proofs.Common.{◌≡◌, ◌≤◌, ℕ, ◌∙◌, ap, arith, length, List, slice_index, get_or, Bool}
+use Rattle.std.proofs.Common.{◌≡◌, ◌+◌, ◌≤◌, ℕ, ◌∙◌, ap, arith, length, List, slice_index, get_or, Bool}
 use Rattle.label_cards.specs.Counted.{vertex_adds, row_adds}
 use Rattle.label_cards.specs.Plans.{fits_set, passes_at}
 use Rattle.label_cards.proofs.PassLemmas.{written, sum_turn, rows_room, all_triples, all_vertices}
+use Rattle.label_cards.proofs.StepLemmas.{pass-next, pass-end}
 use Rattle.label_cards.proofs.pass.Counts.of.Goals as goal
 
 pub count_row-requires-clause-room : goal.count_row-requires-clause-room
@@ -36,16 +37,18 @@ loop-i-preserved g c =
           ap (λ (l : List ℕ). get_or l p 0) tests
           ∙ sum_turn (λ v. row_adds texts graph plan v p) listed c.loop-i.i c.vertex_at-v.result (get_or c.as_mut_slice-in-loop-i-2.result.now p 0) (get_or c.count_row.new.counts p 0) c.vertex_at-v.ensures.id
           (ap (λ (l : List ℕ). get_or l p 0) tests_before.value ∙ c.loop-i.invariant.tests p h)
-          (c.count_row.ensures p (omega (arith, h, tests_size)));
+          (c.count_row.ensures.counts p (omega (arith, h, tests_size)));
       sets = λ u h.
           ap (λ (l : List ℕ). get_or l u 0) sets
           ∙ sum_turn (λ v. vertex_adds graph plan.sets.items v u) listed c.loop-i.i c.vertex_at-v.result (get_or c.as_mut_slice-in-loop-i.result.now u 0) (get_or c.count_vertex.new.counts u 0) c.vertex_at-v.ensures.id
           (ap (λ (l : List ℕ). get_or l u 0) sets_before.value ∙ c.loop-i.invariant.sets u h)
           (rw c.as_slice.ensures.value at (c.count_vertex.ensures.counts u (omega (arith, h, sets_size))));
+      steps = pass-next graph listed c.loop-i.i c.vertex_at-v.result (1 + length plan.tests.items) c.args.steps.now c.loop-i.steps c.count_row.new.steps c.vertex_at-v.ensures.id c.loop-i.invariant.steps
+          (omega (arith, c.vertex_at-v.ensures.step, c.count_vertex.ensures.step, c.count_row.ensures.steps));
     }
 
-pub returns : goal.returns
-returns g c =
+pub returns-clause-counts : goal.returns-clause-counts
+returns-clause-counts g c =
     let texts = g.G.HoldGraph.label_text c.args.graph.now in
     let graph = g.G.HoldGraph.graph c.args.graph.now in
     let plan = c.args.plan.now in
@@ -59,3 +62,9 @@ returns g c =
       sets_size = counted.sets_size;
       sets = λ u below. all_vertices graph known.held.graph listed c.loop-i.i known.listed end (fits_set plan.sets.items graph u) (get_or c.loop-i.sets.items u 0) (counted.sets u below);
     }
+
+pub returns-clause-steps : goal.returns-clause-steps
+returns-clause-steps g c =
+    let known = c.vertex_count-i-end.ensures in
+    pass-end (g.G.HoldGraph.graph c.args.graph.now) (g.G.HoldGraph.listed c.args.graph.now) c.loop-i.i (1 + length c.args.plan.now.tests.items) c.args.steps.now c.loop-i.steps
+    known.held.graph known.listed (omega (arith, c.loop-i-test.false, c.loop-i.auto.i-end, known.count)) c.loop-i.invariant.steps

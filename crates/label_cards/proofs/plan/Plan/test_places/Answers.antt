@@ -1,4 +1,4 @@
-use Rattle.std.proofs.Common.{◌==◌, ◌∙◌, sym, subst, take, get_or}
+use Rattle.std.proofs.Common.{◌==◌, ◌∙◌, sym, subst, take, get_or, arith}
 use Rattle.std.specs.declared.alloc.Global.{Global}
 use Rattle.std.specs.declared.vec.Vec.{Vec}
 use Rattle.flux_model.specs.Pattern.{HasEnds}
@@ -33,6 +33,7 @@ loop-k-preserved g c =
         rows = made.rows;
       };
       kept = λ p other here. made.kept p other (before.kept p other here);
+      few = omega (arith, made.few, before.few);
       sets = c.test_place.ensures.sets ∙ before.sets;
       places = all-next (IsTestOf texts graph new vertices) q.edges k e c.loop-k.places.items c.push.new.self.items c.in_ok-test_place.field-0 c.edge-edge.ensures.edge
           (tests-kept texts graph old new vertices (take k q.edges) c.loop-k.places.items made.kept before.places)
