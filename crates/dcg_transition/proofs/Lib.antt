@@ -5,3 +5,4 @@ pub mod OutLemmas
 pub mod ReachLemmas
 pub mod RootLemmas
 pub mod ExtendLemmas
+pub mod StepLemmas

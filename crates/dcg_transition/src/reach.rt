@@ -1,5 +1,5 @@
 //! The rows, from the root down.
-ghost use Rattle.std.specs.Prelude.{◌≡◌, ◌≢◌, ◌<◌, ◌+◌, length, false, IsTrue, OnOk};
+ghost use Rattle.std.specs.Prelude.{◌≡◌, ◌≢◌, ◌<◌, ◌≤◌, ◌+◌, ◌*◌, ◌==◌, count_by, length, false, IsTrue, OnOk};
 ghost use Rattle.std.specs.FinMap.{empty};
 ghost use Rattle.flux_model.specs.Graph.{has_vertex};
 ghost use Rattle.flux_model.specs.Tree.{BelongsTo};
@@ -7,6 +7,7 @@ ghost use Rattle.flux_model.specs.States.{joined};
 ghost use Rattle.graph_traits.specs.Numbers.{IsNumberOf};
 ghost use Rattle.query_tree.specs.Depth.{depth};
 ghost use Rattle.graph_rows.specs.Branches.{joins_to};
+ghost use Rattle.graph_rows.specs.Directions.{whole_row};
 ghost use Rattle.dcg_transition.specs.Tallies.{HasRoomToJoin};
 ghost use Rattle.dcg_transition.specs.Filled.{child_counts, AreBegun, HasMoreIns};
 ghost use Rattle.dcg_transition.specs.Levels.{depths_of, IsReachedTo, IsCounted};
@@ -19,6 +20,8 @@ use query_tree::QueryTree;
 use std::alloc::{AllocError, Global};
 
 /// Makes the rows of all pairs that are not null, with no out counter raised. `depths` has the depth of each vertex.
+///
+/// Of the root each vertex of the graph takes three steps at most, and of each vertex of the tree one, and three for each of its triples.
 pub fn reach<G: ReadGraph<L>, L: Ledger>(
     alloc: Global,
     graph: &G,
@@ -31,7 +34,9 @@ pub fn reach<G: ReadGraph<L>, L: Ledger>(
     requires belongs { BelongsTo pattern.now tree.now }
     requires depths { depths.now ≡ depths_of tree.now }
     requires empty { dcg.old ≡ record { is_broken = false; children = child_counts tree.now; rows = empty } }
-    ensures { OnOk result (IsCounted (joined pattern.now tree.now (G.graph graph.now)) (λ _. false) dcg.new) }
+    ensures counted { OnOk result (IsCounted (joined pattern.now tree.now (G.graph graph.now)) (λ _. false) dcg.new) }
+    ensures steps { let v = length (G.graph graph.now).vertices in let rows = v + 3 * length (G.graph graph.now).triples in
+        OnOk result (steps.new ≤ steps.old + 3 * v + length tree.now.links * rows) }
 {
     reach_root(graph, pattern, tree, dcg, steps)?;
     for level in 1..tree.vertex_count() {
@@ -50,7 +55,8 @@ fn reach_root<G: ReadGraph<L>, L: Ledger>(
 ) -> Result<(), AllocError>
     requires belongs { BelongsTo pattern.now tree.now }
     requires empty { dcg.old ≡ record { is_broken = false; children = child_counts tree.now; rows = empty } }
-    ensures { OnOk result (IsReachedTo pattern.now tree.now (G.graph graph.now) 1 0 dcg.new) }
+    ensures reached { OnOk result (IsReachedTo pattern.now tree.now (G.graph graph.now) 1 0 dcg.new) }
+    ensures steps { OnOk result (steps.new ≤ steps.old + 3 * length (G.graph graph.now).vertices) }
 {
     let root = tree.root();
     let labels = pattern.labels(root);
@@ -78,7 +84,9 @@ fn reach_level<G: ReadGraph<L>, L: Ledger>(
     requires depths { depths.now ≡ depths_of tree.now }
     requires below_root { 0 < level }
     requires reached { IsReachedTo pattern.now tree.now (G.graph graph.now) level 0 dcg.old }
-    ensures { OnOk result (IsReachedTo pattern.now tree.now (G.graph graph.now) (level + 1) 0 dcg.new) }
+    ensures reached { OnOk result (IsReachedTo pattern.now tree.now (G.graph graph.now) (level + 1) 0 dcg.new) }
+    ensures steps { let rows = length (G.graph graph.now).vertices + 3 * length (G.graph graph.now).triples in
+        OnOk result (steps.new ≤ steps.old + count_by (λ d. d == level) depths.now * rows) }
 {
     for (u, depth) in depths.iter().enumerate() {
         if *depth != level {
@@ -103,7 +111,9 @@ fn reach_vertex<G: ReadGraph<L>, L: Ledger>(
     requires vertex { u < length tree.now.links }
     requires not_root { u ≢ tree.now.root }
     requires reached { IsReachedTo pattern.now tree.now (G.graph graph.now) (depth tree.now u) u dcg.old }
-    ensures { OnOk result (IsReachedTo pattern.now tree.now (G.graph graph.now) (depth tree.now u) (u + 1) dcg.new) }
+    ensures reached { OnOk result (IsReachedTo pattern.now tree.now (G.graph graph.now) (depth tree.now u) (u + 1) dcg.new) }
+    ensures steps { let rows = length (G.graph graph.now).vertices + 3 * length (G.graph graph.now).triples in
+        OnOk result (steps.new ≤ steps.old + rows) }
 {
     let branch = Branch::of(graph, pattern, tree, u);
     // For the proof: the graph is within its limits.
@@ -129,7 +139,9 @@ fn reach_ends<G: ReadGraph<L>, L: Ledger>(
     requires child { branch.now.child < length dcg.old.children }
     requires begun { AreBegun dcg.old branch.now.child }
     requires room { HasRoomToJoin dcg.old branch.now (G.graph graph.now) v }
-    ensures { OnOk result (HasMoreIns branch.now.child (joins_to branch.now (G.graph graph.now) v) dcg.old dcg.new) }
+    ensures ins { OnOk result (HasMoreIns branch.now.child (joins_to branch.now (G.graph graph.now) v) dcg.old dcg.new) }
+    ensures steps { let row = length (whole_row branch.now.direction (G.graph graph.now) v) in
+        OnOk result (steps.new ≤ steps.old + 1 + 3 * row) }
 {
     let row = branch.row(v);
     let mut at = row.first(graph);

@@ -1,5 +1,6 @@
 //! All rows of a tree over a graph.
-ghost use Rattle.std.specs.Prelude.{IfOk};
+ghost use Rattle.std.specs.Prelude.{◌+◌, ◌*◌, ◌≤◌, IfOk, OnOk};
+ghost use Rattle.flux_model.specs.Costs.{start_cost};
 ghost use Rattle.flux_model.specs.Tree.{BelongsTo};
 ghost use Rattle.flux_model.specs.Exact.{IsExact};
 
@@ -14,7 +15,7 @@ use std::alloc::{AllocError, Global};
 
 /// The exact rows of the states of the pattern over the graph, by this tree of the pattern.
 ///
-/// `AllocError` where no memory is left.
+/// It takes at most three quarters of the steps of a start. `AllocError` where no memory is left.
 pub fn build<G: ReadGraph<L>, L: Ledger>(
     alloc: Global,
     pattern: &Pattern,
@@ -23,7 +24,8 @@ pub fn build<G: ReadGraph<L>, L: Ledger>(
     steps: &mut Steps<L>,
 ) -> Result<Dcg, AllocError>
     requires { BelongsTo pattern.now tree.now }
-    ensures { IfOk result (λ dcg. IsExact pattern.now tree.now (G.graph graph.now) dcg) }
+    ensures exact { IfOk result (λ dcg. IsExact pattern.now tree.now (G.graph graph.now) dcg) }
+    ensures steps { OnOk result (4 * steps.new ≤ 4 * steps.old + 3 * start_cost pattern.now (G.graph graph.now)) }
 {
     let depths = depths(alloc, tree)?;
     let counts = child_counts(alloc, tree)?;

@@ -5,4 +5,4 @@ pub are_same-requires-clause-one_vertices : goal.are_same-requires-clause-one_ve
 are_same-requires-clause-one_vertices g c = sized c.args.tree.now _ _ c.requires.exact.children c.vertex_count.ensures
 
 pub are_same-requires-clause-other_vertices : goal.are_same-requires-clause-other_vertices
-are_same-requires-clause-other_vertices g c = sized c.args.tree.now _ _ c.in_ok-built.ensures.children c.vertex_count.ensures
+are_same-requires-clause-other_vertices g c = sized c.args.tree.now _ _ c.in_ok-built.ensures.exact.children c.vertex_count.ensures
