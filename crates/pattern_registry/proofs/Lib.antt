@@ -12,3 +12,4 @@ pub mod StepLemmas
 pub mod SoleLemmas
 pub mod SpendLemmas
 pub mod UpdateCostLemmas
+pub mod StartLemmas

@@ -5,11 +5,10 @@ use Rattle.flux_model.specs.Graph.{Graph}
 use Rattle.flux_model.specs.Pattern.{PatternGraph}
 use Rattle.flux_model.specs.Tree.{QueryTree}
 use Rattle.tree_search.specs.SearchCosts.{MeetsNoDeadEnd}
-use Rattle.pattern_registry.specs.States.{PatternStates}
 
--- the search of no pattern meets a dead end
-pub record MeetNoDeadEnd (s : PatternStates) : Type 0 where
-  pub each : (k : ℕ) (q : PatternGraph) (t : QueryTree) → slice_get s.patterns k ≡ Some q → slice_get s.trees k ≡ Some t → MeetsNoDeadEnd q t
+-- the search of no pattern meets a dead end, by its tree
+pub record MeetNoDeadEnd (patterns : List PatternGraph) (trees : List QueryTree) : Type 0 where
+  pub each : (k : ℕ) (q : PatternGraph) (t : QueryTree) → slice_get patterns k ≡ Some q → slice_get trees k ≡ Some t → MeetsNoDeadEnd q t
 
 -- of the embeddings of each pattern, by its tree
 abbrev pub no_dead_end_costs : Graph → List PatternGraph → List QueryTree → ℕ

@@ -1,8 +1,8 @@
 //! `PatternIndex`: the tree and the rows of one pattern.
-ghost use Rattle.std.specs.Prelude.{◌≡◌, ◌≤◌, ◌+◌, true, false, IfOk, OnOk, IsPermutation};
+ghost use Rattle.std.specs.Prelude.{◌≡◌, ◌≤◌, ◌+◌, ◌*◌, true, false, IfOk, OnOk, IsPermutation};
 ghost use Rattle.dcg_updates.specs.VertexApart.{IsVertexApart};
 ghost use Rattle.flux_model.specs.Change.{gained};
-ghost use Rattle.flux_model.specs.Costs.{no_dead_end_cost};
+ghost use Rattle.flux_model.specs.Costs.{no_dead_end_cost, start_cost};
 ghost use Rattle.flux_model.specs.Embedding.{embeddings};
 ghost use Rattle.flux_model.specs.Exact.{IsExact};
 ghost use Rattle.flux_model.specs.Graph.{Graph, has_both_ends, has_triple, with_triple, without_triple};
@@ -29,6 +29,8 @@ pub struct PatternIndex {
 
 impl PatternIndex {
     /// The tree that the cards of the pattern over the graph choose, and its exact rows over the graph.
+    ///
+    /// It takes at most three quarters of the steps of a start.
     pub fn build<G: ReadGraph<L>, L: Ledger>(
         alloc: Global,
         pattern: &Pattern,
@@ -40,6 +42,7 @@ impl PatternIndex {
         ensures tree { IfOk result (λ index. index.tree ≡ tree pattern.now (G.graph graph.now)) }
         ensures belongs { IfOk result (λ index. BelongsTo pattern.now index.tree) }
         ensures exact { IfOk result (λ index. IsExact pattern.now index.tree (G.graph graph.now) index.dcg) }
+        ensures steps { OnOk result (4 * steps.new ≤ 4 * steps.old + 3 * start_cost pattern.now (G.graph graph.now)) }
     {
         let tree = QueryTree::choose(alloc, pattern, cards)?;
         let dcg = build(alloc, pattern, &tree, graph, steps)?;

@@ -2,9 +2,9 @@
 ghost use Rattle.std.specs.Prelude.{◌≡◌, ◌<◌, ◌≤◌, ◌+◌, ◌*◌, ℕ, length, slice_get, false, true};
 ghost use Rattle.std.specs.Prelude.{Some, Ok, Err, IfOk, IfErr, OnOk, OnErr};
 ghost use Rattle.std.specs.FinMap.{len};
-ghost use Rattle.std.specs.List.{zip};
+ghost use Rattle.std.specs.List.{zip, sum_by};
 ghost use Rattle.std.specs.Option.{option_map};
-ghost use Rattle.flux_model.specs.Costs.{update_cost};
+ghost use Rattle.flux_model.specs.Costs.{start_cost, update_cost};
 ghost use Rattle.flux_model.specs.Deltas.{answer_deltas, change_deltas, AreReordered};
 ghost use Rattle.flux_model.specs.Graph.{Graph, IsGraph, apply, has_triple};
 ghost use Rattle.flux_model.specs.declared.graph.Update.TheVariants.{AddVertex, DropVertex, AddEdge, DropEdge};
@@ -57,7 +57,7 @@ impl Model for Registry {
 impl Registry {
     /// These patterns, each with the tree that its cards over the graph choose, and with rows that are exact over the graph.
     ///
-    /// `AllocError` where no memory is left.
+    /// It takes no more steps than the starts of the patterns. `AllocError` where no memory is left.
     pub fn start<G: ReadGraph<L>, L: Ledger>(
         alloc: Global,
         patterns: Patterns,
@@ -68,6 +68,8 @@ impl Registry {
         ensures trees { IfOk result (λ registry. registry.trees ≡ trees_over (G.graph graph.now) patterns) }
         ensures exact { IfOk result (λ registry. AreExact registry (G.graph graph.now)) }
         ensures whole { IfOk result (λ registry. registry.is_broken ≡ false) }
+        ensures steps { let starts = sum_by (λ q. start_cost q (G.graph graph.now)) patterns in
+            OnOk result (steps.new ≤ steps.old + starts) }
     {
         let cards = all_cards(alloc, graph, &patterns, steps)?;
         let mut indexes = Vec::new(alloc);
@@ -97,7 +99,7 @@ impl Registry {
     ) -> Result<Deltas, AllocError>
         requires { AreExact self.now (G.graph graph.now) }
         ensures answers { IfOk result (λ deltas. AreReordered (answer_deltas 0 (G.graph graph.now) self.now.patterns) deltas) }
-        ensures steps { OnOk result (MeetNoDeadEnd self.now
+        ensures steps { OnOk result (MeetNoDeadEnd self.now.patterns self.now.trees
             → steps.new ≤ steps.old + no_dead_end_costs (G.graph graph.now) self.now.patterns self.now.trees) }
     {
         let mut deltas = Deltas::new(self.alloc);

@@ -10,5 +10,5 @@ abbrev pub invariant-loop-k : goal.invariant-loop-k
 invariant-loop-k g l = record {
   all : AreReordered (answer_deltas 0 (g.G.HoldGraph.graph l.graph) (take l.k l.self.patterns)) l.deltas;
   below : AllByRecursion (λ (d : Delta). d.pattern < l.k) l.deltas;
-  steps : MeetNoDeadEnd l.self → l.steps + no_dead_end_costs (g.G.HoldGraph.graph l.graph) (drop l.k l.self.patterns) (drop l.k l.self.trees) ≤ l.fn.steps + no_dead_end_costs (g.G.HoldGraph.graph l.graph) l.self.patterns l.self.trees;
+  steps : MeetNoDeadEnd l.self.patterns l.self.trees → l.steps + no_dead_end_costs (g.G.HoldGraph.graph l.graph) (drop l.k l.self.patterns) (drop l.k l.self.trees) ≤ l.fn.steps + no_dead_end_costs (g.G.HoldGraph.graph l.graph) l.self.patterns l.self.trees;
 }
