@@ -1,7 +1,7 @@
 //! `Session`: a graph, the patterns with their index over it, and how many lines there were.
 ghost use Rattle.std.specs.Prelude.{◌≡◌, ◌<◌, ◌≤◌, ◌+◌, ◌^◌, ◌++◌, false, true, IfOk, OnOk, OnErr};
-ghost use Rattle.std.specs.List.{zip};
-ghost use Rattle.flux_model.specs.Costs.{line_cost};
+ghost use Rattle.std.specs.List.{zip, sum_by};
+ghost use Rattle.flux_model.specs.Costs.{line_cost, start_cost};
 ghost use Rattle.flux_model.specs.Grown.{GrewByFront};
 ghost use Rattle.flux_model.specs.LentLine.{seen_line};
 ghost use Rattle.flux_model.specs.Reading.{update_reading};
@@ -59,7 +59,7 @@ impl<G: HoldGraph> Model for Session<G> {
 impl<G: KeepGraph> Session<G> {
     /// A session before its first line.
     ///
-    /// `AllocError` where no memory is left.
+    /// It takes no more steps than the starts of the patterns. `AllocError` where no memory is left.
     pub fn start<L: Ledger>(
         alloc: Global,
         graph: G,
@@ -71,6 +71,8 @@ impl<G: KeepGraph> Session<G> {
         ensures state { IfOk result (λ session. watched session ≡ first_state (G.limits graph) (G.graph graph) patterns) }
         ensures trees { IfOk result (λ session. session.registry.trees ≡ trees_over (G.graph graph) patterns) }
         ensures whole { IfOk result (λ session. session.is_broken ≡ false) }
+        ensures steps { let starts = sum_by (λ q. start_cost q (G.graph graph)) patterns in
+            OnOk result (steps.new ≤ steps.old + starts) }
     {
         let registry = Registry::start(alloc, patterns, &graph, steps)?;
         Ok(Session {
