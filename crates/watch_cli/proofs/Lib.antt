@@ -3,3 +3,4 @@ pub mod FollowLemmas
 pub mod AnswersLemmas
 pub mod TopLemmas
 pub mod AskedByRunLemmas
+pub mod CostLemmas

@@ -162,7 +162,7 @@ Reported-short p0 p1 p2 report1 first now all left said so front =
     (AppendsFront-after p0 p1 p2 so.part ((report1 ++ next_block now said) ++ rest) so.put (AppendsFront-longer p1 p2 (report1 ++ next_block now said) rest front))
 
 -- the first of the lines that wait
-queue-cons : (q : List InputLine) (x : InputLine) → x ∷ [] ≡ take 1 q → said_by q ≡ update_reading x ∷ said_by (drop 1 q)
+pub queue-cons : (q : List InputLine) (x : InputLine) → x ∷ [] ≡ take 1 q → said_by q ≡ update_reading x ∷ said_by (drop 1 q)
 queue-cons [] x e = cc
 queue-cons (y ∷ q) x e = let same : y ≡ x = cc in ap (λ z. update_reading z ∷ said_by q) same
 
@@ -253,20 +253,24 @@ none_short p0 p1 waited s none front = subst (λ w. AppendsFront p0 p1 (w ++ end
 -- ---- the updates, piece by piece
 
 -- before the first read
-pub Followed-start : (n : ℕ) (left put : Option (List ℕ)) (s : WatchState) (waiting : Waiting) → waiting ≡ record { line_bytes = n; queue = []; rest = held [] } → Followed n 0 left left put put s s waiting
-Followed-start n left put s waiting is = record {
-  bytes = [];
-  count = refl;
-  read = Consumes-nil left;
-  written = Appends-nil put;
-  state = refl;
-  limit = ap (λ (w : Waiting). w.line_bytes) is;
-  queue = ap (λ (w : Waiting). w.queue) is;
-  rest = ap (λ (w : Waiting). w.rest) is ∙ sym (rest-nil n);
-}
+pub Followed-start : (n : ℕ) (left put : Option (List ℕ)) (s : WatchState) (waiting : Waiting) → waiting ≡ record { line_bytes = n; queue = []; rest = held [] }
+    → (start : Followed n 0 left left put put s s waiting) × (start.bytes ≡ [])
+Followed-start n left put s waiting is = (
+  record {
+    bytes = [];
+    count = refl;
+    read = Consumes-nil left;
+    written = Appends-nil put;
+    state = refl;
+    limit = ap (λ (w : Waiting). w.line_bytes) is;
+    queue = ap (λ (w : Waiting). w.queue) is;
+    rest = ap (λ (w : Waiting). w.rest) is ∙ sym (rest-nil n);
+  },
+  refl,
+)
 
 -- what a push adds
-pushed : (n given : ℕ) (l0 l1 p0 p1 : Option (List ℕ)) (first now : WatchState) (w0 w1 : Waiting) (piece : List ℕ) (so : Followed n given l0 l1 p0 p1 first now w0)
+pub pushed : (n given : ℕ) (l0 l1 p0 p1 : Option (List ℕ)) (first now : WatchState) (w0 w1 : Waiting) (piece : List ℕ) (so : Followed n given l0 l1 p0 p1 first now w0)
     → ((b : List ℕ) → rest w0.line_bytes b ≡ w0.rest → Follows b piece w0 w1)
     → (whole n (so.bytes ++ piece) ≡ whole n so.bytes ++ w1.queue) × (w1.rest ≡ rest n (so.bytes ++ piece))
 pushed n given l0 l1 p0 p1 first now w0 w1 piece so follows =
@@ -277,7 +281,7 @@ pushed n given l0 l1 p0 p1 first now w0 w1 piece so follows =
     )
 
 -- what the lines of a front and those that wait say
-said-pushed : (n : ℕ) (bytes piece : List ℕ) (queue : List InputLine) → whole n (bytes ++ piece) ≡ whole n bytes ++ queue → said_by (whole n (bytes ++ piece)) ≡ said_by (whole n bytes) ++ said_by queue
+pub said-pushed : (n : ℕ) (bytes piece : List ℕ) (queue : List InputLine) → whole n (bytes ++ piece) ≡ whole n bytes ++ queue → said_by (whole n (bytes ++ piece)) ≡ said_by (whole n bytes) ++ said_by queue
 said-pushed n bytes piece queue e = ap said_by e ∙ map-append update_reading (whole n bytes) queue
 
 -- the number of lines stays below that of bytes
@@ -296,27 +300,29 @@ some_lines_fit n given l0 l1 p0 p1 first now w so =
     omega (arith, before, length-map (whole n so.bytes) update_reading, so.count, length-whole n so.bytes)
 
 -- the blocks of the lines that a piece ends were put
-pub Followed-next : (n given count : ℕ) (l0 l1 l2 p0 p1 p2 : Option (List ℕ)) (first now next : WatchState) (w0 w1 w2 : Waiting) (piece : List ℕ) → Followed n given l0 l1 p0 p1 first now w0
+pub Followed-next : (n given count : ℕ) (l0 l1 l2 p0 p1 p2 : Option (List ℕ)) (first now next : WatchState) (w0 w1 w2 : Waiting) (piece : List ℕ) (so : Followed n given l0 l1 p0 p1 first now w0)
     → Consumes l1 l2 piece → count ≡ length piece
     → ((b : List ℕ) → rest w0.line_bytes b ≡ w0.rest → Follows b piece w0 w1) → w1.line_bytes ≡ w0.line_bytes
     → Appends p1 p2 (next_blocks now (said_by w1.queue)) → next ≡ after_all now (said_by w1.queue) → w2 ≡ record w1 { queue = [] }
-    → Followed n (given + count) l0 l2 p0 p2 first next w2
+    → (after : Followed n (given + count) l0 l2 p0 p2 first next w2) × (after.bytes ≡ so.bytes ++ piece)
 Followed-next n given count l0 l1 l2 p0 p1 p2 first now next w0 w1 w2 piece so read len follows limit put after passed =
     let add = pushed n given l0 l1 p0 p1 first now w0 w1 piece so follows in
-    let said : said_by (whole n (so.bytes ++ piece)) ≡ said_by (whole n so.bytes) ++ said_by w1.queue = said-pushed n so.bytes piece w1.queue add.0 in
-    record {
-      bytes = so.bytes ++ piece;
-      count = omega (arith, length-append so.bytes piece, so.count, len);
-      read = Consumes-trans l0 l1 l2 so.bytes piece so.read read;
-      written = subst (Appends p0 p2)
-          (ap (λ (s : WatchState). next_blocks first (said_by (whole n so.bytes)) ++ next_blocks s (said_by w1.queue)) so.state
-          ∙ sym (ap (next_blocks first) said ∙ next_blocks-append first (said_by (whole n so.bytes)) (said_by w1.queue)))
-          (Appends-trans p0 p1 p2 (next_blocks first (said_by (whole n so.bytes))) (next_blocks now (said_by w1.queue)) so.written put);
-      state = after ∙ ap (λ (s : WatchState). after_all s (said_by w1.queue)) so.state ∙ sym (ap (after_all first) said ∙ after_all-append first (said_by (whole n so.bytes)) (said_by w1.queue));
-      limit = ap (λ (w : Waiting). w.line_bytes) passed ∙ limit ∙ so.limit;
-      queue = ap (λ (w : Waiting). w.queue) passed;
-      rest = ap (λ (w : Waiting). w.rest) passed ∙ add.1;
-    }
+    let said : said_by (whole n (so.bytes ++ piece)) ≡ said_by (whole n so.bytes) ++ said_by w1.queue = said-pushed n so.bytes piece w1.queue add.0 in (
+      record {
+        bytes = so.bytes ++ piece;
+        count = omega (arith, length-append so.bytes piece, so.count, len);
+        read = Consumes-trans l0 l1 l2 so.bytes piece so.read read;
+        written = subst (Appends p0 p2)
+            (ap (λ (s : WatchState). next_blocks first (said_by (whole n so.bytes)) ++ next_blocks s (said_by w1.queue)) so.state
+            ∙ sym (ap (next_blocks first) said ∙ next_blocks-append first (said_by (whole n so.bytes)) (said_by w1.queue)))
+            (Appends-trans p0 p1 p2 (next_blocks first (said_by (whole n so.bytes))) (next_blocks now (said_by w1.queue)) so.written put);
+        state = after ∙ ap (λ (s : WatchState). after_all s (said_by w1.queue)) so.state ∙ sym (ap (after_all first) said ∙ after_all-append first (said_by (whole n so.bytes)) (said_by w1.queue));
+        limit = ap (λ (w : Waiting). w.line_bytes) passed ∙ limit ∙ so.limit;
+        queue = ap (λ (w : Waiting). w.queue) passed;
+        rest = ap (λ (w : Waiting). w.rest) passed ∙ add.1;
+      },
+      refl,
+    )
 
 -- a front part of the blocks of the lines that a piece ends was put
 pub Followed-short : (n given : ℕ) (l0 l1 p0 p1 p2 : Option (List ℕ)) (first now : WatchState) (w0 w1 : Waiting) (piece : List ℕ) (so : Followed n given l0 l1 p0 p1 first now w0)
@@ -330,7 +336,7 @@ Followed-short n given l0 l1 p0 p1 p2 first now w0 w1 piece so follows front =
     (AppendsFront-after p0 p1 p2 (next_blocks first (said_by (whole n so.bytes))) (next_blocks now (said_by w1.queue)) so.written front)
 
 -- all lines of what was read, where the source is at its end
-all_lines : (n given : ℕ) (l0 l1 p0 p1 : Option (List ℕ)) (first now : WatchState) (w : Waiting) (last : List InputLine) (so : Followed n given l0 l1 p0 p1 first now w)
+pub all_lines : (n given : ℕ) (l0 l1 p0 p1 : Option (List ℕ)) (first now : WatchState) (w : Waiting) (last : List InputLine) (so : Followed n given l0 l1 p0 p1 first now w)
     → ((b : List ℕ) → rest w.line_bytes b ≡ w.rest → lines w.line_bytes b ≡ whole w.line_bytes b ++ last) → lines n so.bytes ≡ whole n so.bytes ++ last
 all_lines n given l0 l1 p0 p1 first now w last so ended =
     ap (λ k. lines k so.bytes) (sym so.limit) ∙ ended so.bytes (ap (λ k. rest k so.bytes) so.limit ∙ sym so.rest) ∙ ap (λ k. whole k so.bytes ++ last) so.limit

@@ -6,3 +6,4 @@ pub mod RunEnds
 pub mod Kept
 pub mod EarlyEnds
 pub mod AskedByRun
+pub mod RunCosts

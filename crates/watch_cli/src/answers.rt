@@ -1,5 +1,5 @@
 //! `match`: the graph file is read into a store, and the pattern file, and all embeddings are put.
-ghost use Rattle.std.specs.Prelude.{◌≡◌, ◌≤◌, ◌++◌, Some, List, ℕ, Option, OnOk, OnErr, IfErr};
+ghost use Rattle.std.specs.Prelude.{◌≡◌, ◌≤◌, ◌+◌, ◌++◌, Some, List, ℕ, Option, OnOk, OnErr, IfErr};
 ghost use Rattle.std.specs.Io.KnownBytes.{Appends};
 ghost use Rattle.flux_outside.specs.Causes.{Rose};
 ghost use Rattle.flux_outside.specs.Reads.{Read, NoEmptyPut};
@@ -11,6 +11,9 @@ ghost use Rattle.flux_model.specs.Verdict.{Match, Done};
 ghost use Rattle.watch_cli.specs.AskedByRun.{EndsAtReadFault, AskedByRun};
 ghost use Rattle.watch_cli.specs.RunEnds.{RunEndsAs, RunEndsBefore, ReadFails, StatusWhere};
 ghost use Rattle.watch_cli.specs.EarlyEnds.{IsEarly, WriteEnds};
+ghost use Rattle.watch_cli.specs.RunCosts.{starts_cost, RunStaysWithin};
+ghost use Rattle.pattern_registry.specs.AnswerCosts.{MeetNoDeadEnd, no_dead_end_costs};
+ghost use Rattle.pattern_registry.specs.States.{trees_over};
 
 use crate::report::put_report;
 use crate::status::{InputFile, Status};
@@ -37,6 +40,8 @@ pub fn list_answers<F: Shelf, G: KeepGraph + ReadGraph<L>, W: Sink, L: Ledger>(
     requires fair { IsFair limits.now }
     requires limits { G.limits empty ≡ limits.now }
     requires empty { G.graph empty ≡ empty_graph }
+    ensures steps { (left : Option (List ℕ)) → OnOk result (
+        RunStaysWithin limits.now (F.files shelf.old) (Some (Match graph_name.now patterns_name.now)) left steps.old steps.new) }
     ensures ok { (left : Option (List ℕ)) → OnOk result (
         RunEndsAs limits.now (F.files shelf.old) (Some (Match graph_name.now patterns_name.now))
         left (W.taken out.old) (W.taken out.new) Done) }
@@ -71,6 +76,8 @@ fn put_answers<G: ReadGraph<L>, W: Sink, L: Ledger>(
     out: &mut W,
     steps: &mut Steps<L>,
 ) -> Result<(), Status>
+    ensures steps { let g = G.graph graph.now in OnOk result (MeetNoDeadEnd patterns (trees_over g patterns)
+        → steps.new ≤ steps.old + starts_cost g patterns + no_dead_end_costs g patterns (trees_over g patterns)) }
     ensures ok { OnOk result (Appends (W.taken out.old) (W.taken out.new) (match_text (G.graph graph.now) patterns)) }
     ensures err { OnErr result (AppendsFront (W.taken out.old) (W.taken out.new) (match_text (G.graph graph.now) patterns)) }
     ensures status { IfErr result (WriteEnds (W.faults out.old) (W.faults out.new)) }
@@ -92,6 +99,8 @@ fn write_all<G: ReadGraph<L>, L: Ledger>(
     steps: &mut Steps<L>,
 ) -> Result<(), AllocError>
     ensures ok { OnOk result (text.new.items ≡ text.old.items ++ match_text (G.graph graph.now) patterns) }
+    ensures steps { let g = G.graph graph.now in OnOk result (MeetNoDeadEnd patterns (trees_over g patterns)
+        → steps.new ≤ steps.old + starts_cost g patterns + no_dead_end_costs g patterns (trees_over g patterns)) }
 {
     // For the proof: what a store holds is a graph.
     let _ = graph.vertex_count();

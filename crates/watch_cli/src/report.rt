@@ -10,6 +10,7 @@ ghost use Rattle.watch_core.specs.SessionStates.{watched};
 ghost use Rattle.stream_lines.specs.Lent.{one_line};
 ghost use Rattle.watch_cli.specs.ReportProgress.{Wrote};
 ghost use Rattle.watch_cli.specs.EarlyEnds.{WriteEnds};
+ghost use Rattle.watch_cli.specs.RunCosts.{next_cost, next_costs};
 
 use crate::status::Status;
 use flux_model::{Ledger, Line, Steps};
@@ -53,6 +54,9 @@ pub fn report_line<G: KeepGraph + ReadGraph<L>, W: Sink, L: Ledger>(
     requires whole { session.old.is_broken ≡ false }
     requires few { session.old.lines < 2 ^ 60 }
     ensures after { OnOk result (watched session.new ≡ after_said (watched session.old) (update_reading (seen_line line.now))) }
+    ensures trees { OnOk result (session.new.registry.trees ≡ session.old.registry.trees) }
+    ensures steps { let said = update_reading (seen_line line.now) in
+        OnOk result (steps.new ≤ steps.old + next_cost (watched session.old) session.old.registry.trees said) }
     ensures whole { OnOk result (session.new.is_broken ≡ false) }
     ensures ok { OnOk result (Wrote (W.taken out.old) (W.taken out.new) report.old.items report.new.items
         (next_block (watched session.old) (update_reading (seen_line line.now)))) }
@@ -84,6 +88,9 @@ pub fn report_waiting<G: KeepGraph + ReadGraph<L>, W: Sink, L: Ledger>(
     requires fits { session.old.lines + length lines.old.queue ≤ 2 ^ 60 }
     requires empty { report.old.items ≡ [] }
     ensures after { OnOk result (watched session.new ≡ after_all (watched session.old) (said_by lines.old.queue)) }
+    ensures trees { OnOk result (session.new.registry.trees ≡ session.old.registry.trees) }
+    ensures steps { let saids = said_by lines.old.queue in
+        OnOk result (steps.new ≤ steps.old + next_costs (watched session.old) session.old.registry.trees saids) }
     ensures whole { OnOk result (session.new.is_broken ≡ false) }
     ensures ok { let text = next_blocks (watched session.old) (said_by lines.old.queue) in
         OnOk result (Appends (W.taken out.old) (W.taken out.new) text) }
@@ -114,6 +121,8 @@ pub fn report_end<G: KeepGraph + ReadGraph<L>, W: Sink, L: Ledger>(
     requires fits { session.old.lines < 2 ^ 60 }
     requires empty { report.old.items ≡ [] }
     ensures after { OnOk result (watched session.new ≡ after_all (watched session.old) (said_by (one_line last.entry))) }
+    ensures steps { let saids = said_by (one_line last.entry) in
+        OnOk result (steps.new ≤ steps.old + next_costs (watched session.old) session.old.registry.trees saids) }
     ensures whole { OnOk result (session.new.is_broken ≡ false) }
     ensures ok { let text = last_text (watched session.old) (said_by (one_line last.entry)) in
         OnOk result (Appends (W.taken out.old) (W.taken out.new) text) }

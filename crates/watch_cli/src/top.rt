@@ -13,6 +13,7 @@ ghost use Rattle.watch_cli.specs.RunEnds.{KnownOrSome, verdict_of, inputs, writt
 ghost use Rattle.watch_cli.specs.RunEnds.{RunEndsAs, RunEndsBefore, ReadFails, StatusWhere};
 ghost use Rattle.watch_cli.specs.EarlyEnds.{IsEarly};
 ghost use Rattle.watch_cli.specs.Kept.{HasKept};
+ghost use Rattle.watch_cli.specs.RunCosts.{RunStaysWithin};
 
 use crate::answers::list_answers;
 use crate::save::save_graph;
@@ -56,6 +57,8 @@ fn work<F: Shelf, S: Source, W: Sink, L: Ledger>(
     ensures unread { ¬ ReadsUpdates (seen_shape shape.entry) → updates.new ≡ updates.old }
     ensures kept { IfOk result (λ kept. HasKept limits.now (F.files shelf.old) (Some (seen_shape shape.entry))
         (S.left updates.old) Status.Done kept) }
+    ensures steps { OnOk result (RunStaysWithin limits.now (F.files shelf.old) (Some (seen_shape shape.entry))
+        (S.left updates.old) steps.old steps.new) }
     ensures ok { OnOk result (RunEndsAs limits.now (F.files shelf.old) (Some (seen_shape shape.entry))
         (S.left updates.old) (W.taken out.old) (W.taken out.new) Done) }
     ensures front { RunEndsBefore limits.now (F.files shelf.old) (Some (seen_shape shape.entry))
@@ -120,6 +123,8 @@ fn judge<F: Shelf, S: Source, W: Sink, L: Ledger>(
         (S.left updates.old) (S.left updates.new) (W.taken out.old) (W.taken out.new))
         (Rose (W.faults out.old) (W.faults out.new)) result.status }
     ensures kept { HasKept limits.now (F.files shelf.old) (shape_of (texts words.now)) (S.left updates.old) result.status result.kept }
+    ensures steps { result.status ≡ Status.Done
+        → RunStaysWithin limits.now (F.files shelf.old) (shape_of (texts words.now)) (S.left updates.old) steps.old steps.new }
     ensures asked { MatchOption (shape_of (texts words.now)) (F.reads shelf.new ≡ F.reads shelf.old)
         (λ shape. AskedByRun limits.now (F.files shelf.old) shape (IsReadStatus result.status)
         (F.reads shelf.old) (F.reads shelf.new) (S.reads updates.old) (S.reads updates.new)) }
@@ -202,6 +207,8 @@ pub fn run<F: Shelf, S: Source, W: Sink, E: Sink, L: Ledger>(
     ensures unread { MatchOption (shape_of (texts words.now)) (updates.new ≡ updates.old)
         (λ shape. ¬ ReadsUpdates shape → updates.new ≡ updates.old) }
     ensures kept { HasKept limits.now (F.files shelf.old) (shape_of (texts words.now)) (S.left updates.old) result.status result.kept }
+    ensures steps { result.status ≡ Status.Done
+        → RunStaysWithin limits.now (F.files shelf.old) (shape_of (texts words.now)) (S.left updates.old) steps.old steps.new }
     ensures told { Appends (E.taken err.old) (E.taken err.new) (status_text result.status)
         ⊎ (Rose (E.faults err.old) (E.faults err.new) × AppendsFront (E.taken err.old) (E.taken err.new) (status_text result.status)) }
     ensures asked { MatchOption (shape_of (texts words.now)) (F.reads shelf.new ≡ F.reads shelf.old)

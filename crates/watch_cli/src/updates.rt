@@ -1,16 +1,18 @@
 //! The updates, read piece by piece.
-ghost use Rattle.std.specs.Prelude.{◌≡◌, false, ⊤, OnOk, OnErr, IfErr};
+ghost use Rattle.std.specs.Prelude.{◌≡◌, ◌≤◌, ◌+◌, false, ⊤, OnOk, OnErr, IfErr};
 ghost use Rattle.std.specs.Io.KnownBytes.{IsAtEnd};
 ghost use Rattle.flux_outside.specs.Causes.{Rose};
 ghost use Rattle.flux_outside.specs.Reads.{AskedOfInput, SourceReads, NoEmptyPut};
 ghost use Rattle.flux_model.specs.Limits.{IsFair};
+ghost use Rattle.flux_model.specs.Lines.{lines};
 ghost use Rattle.flux_model.specs.Verdict.{Watched, Done, ending_with, written_before};
 ghost use Rattle.file_reading.specs.AskedOfFile.{WentOn};
 ghost use Rattle.watch_cli.specs.AskedByRun.{EndsAtReadFault, EndsAtFile};
 ghost use Rattle.watch_cli.specs.RunEnds.{KnownOrSome, EndsAs, EndsBefore, EndsAtFault, StatusWhere};
 ghost use Rattle.watch_cli.specs.Kept.{after_bytes};
 ghost use Rattle.watch_cli.specs.EarlyEnds.{IsEarly};
-ghost use Rattle.watch_core.specs.Session.{first_state};
+ghost use Rattle.watch_cli.specs.RunCosts.{next_costs};
+ghost use Rattle.watch_core.specs.Session.{first_state, said_by};
 ghost use Rattle.watch_core.specs.SessionStates.{watched};
 
 use crate::report::{report_end, report_waiting};
@@ -39,6 +41,8 @@ pub fn follow<G: KeepGraph + ReadGraph<L>, S: Source, W: Sink, L: Ledger>(
     ensures after { OnOk result (KnownOrSome (S.left updates.old)
         (λ s. watched session.new ≡ after_bytes limits.now (watched session.old) s)) }
     ensures whole { OnOk result (session.new.is_broken ≡ false) }
+    ensures steps { let costs = next_costs (watched session.old) session.old.registry.trees in
+        OnOk result (KnownOrSome (S.left updates.old) (λ s. steps.new ≤ steps.old + costs (said_by (lines limits.now.line_bytes s)))) }
     ensures ok { OnOk result (EndsAs (S.left updates.old)
         (λ s. ending_with limits.now s (Watched session.old.graph session.old.registry.patterns))
         (W.taken out.old) (W.taken out.new) Done) }

@@ -10,6 +10,7 @@ ghost use Rattle.watch_cli.specs.AskedByRun.{EndsAtReadFault, EndsAtFile, AskedB
 ghost use Rattle.watch_cli.specs.RunEnds.{RunEndsAs, RunEndsBefore, ReadFails, StatusWhere};
 ghost use Rattle.watch_cli.specs.EarlyEnds.{IsEarly};
 ghost use Rattle.watch_cli.specs.Kept.{IsSessionOf};
+ghost use Rattle.watch_cli.specs.RunCosts.{RunStaysWithin};
 
 use crate::status::{InputFile, Status};
 use crate::updates::follow;
@@ -38,6 +39,8 @@ pub fn watch_updates<F: Shelf, G: KeepGraph + ReadGraph<L>, S: Source, W: Sink, 
     ensures end { OnOk result (IsAtEnd (S.left updates.new)) }
     ensures kept { IfOk result (λ session. IsSessionOf limits.now (F.files shelf.old)
         (Some (Watch graph_name.now patterns_name.now)) (S.left updates.old) session) }
+    ensures steps { OnOk result (RunStaysWithin limits.now (F.files shelf.old) (Some (Watch graph_name.now patterns_name.now))
+        (S.left updates.old) steps.old steps.new) }
     ensures ok { OnOk result (RunEndsAs limits.now (F.files shelf.old) (Some (Watch graph_name.now patterns_name.now))
         (S.left updates.old) (W.taken out.old) (W.taken out.new) Done) }
     ensures front { RunEndsBefore limits.now (F.files shelf.old) (Some (Watch graph_name.now patterns_name.now))

@@ -10,6 +10,7 @@ use Rattle.watch_cli.proofs.ReportLemmas.{put_either}
 use Rattle.watch_cli.proofs.TopLemmas.{Judged, both-judged, graph-judged, patterns-judged, run-before, run-ends, run-ends_before, text-put, text-front, file-ends, put-ends}
 use Rattle.watch_cli.proofs.FollowLemmas.{write-early}
 use Rattle.watch_cli.proofs.AskedByRunLemmas.{ended-stopped, asked-graph, asked-patterns, written-reads_not}
+use Rattle.watch_cli.proofs.CostLemmas.{match-stays}
 use Rattle.watch_cli.proofs.answers.list_answers.Goals as goal
 
 pub returns-in-Err-clause-front : goal.returns-in-Err-clause-front
@@ -92,3 +93,14 @@ pub returns-clause-asked : goal.returns-clause-asked
 returns-clause-asked g c =
     λ updates. asked-patterns c.args.limits.now (g.F.Shelf.files c.args.shelf.now) (Match c.args.graph_name.now c.args.patterns_name.now) _ (g.F.Shelf.files c.read_store.new.shelf) _ _ _ _
     (g.F.Shelf.reads c.args.shelf.now) (g.F.Shelf.reads c.read_store.new.shelf) (g.F.Shelf.reads c.read_patterns.new.shelf) updates c.in-Ok.ensures.same tt (written-reads_not c.put_answers.result _ _ c.put_answers.ensures.status) (λ ps. refl) c.in-Ok.ensures.asked c.in-Ok-read_patterns.ensures.asked
+
+pub returns-clause-steps : goal.returns-clause-steps
+returns-clause-steps g c =
+    let shape : Shape = Match c.args.graph_name.now c.args.patterns_name.now in
+    let graph = g.G.HoldGraph.graph c.in-Ok.graph in
+    let judged : Judged c.args.limits.now (g.F.Shelf.files c.args.shelf.now) (Some shape) (Ok (Matched graph c.in-Ok-read_patterns.patterns)) =
+    both-judged Matched shape c.args.graph_name.now c.args.patterns_name.now c.args.limits.now (g.F.Shelf.files c.args.shelf.now) (g.F.Shelf.files c.read_store.new.shelf) graph c.in-Ok-read_patterns.patterns
+    (λ m. refl) c.in-Ok.ensures.same c.in-Ok.ensures.ok c.in-Ok-read_patterns.ensures.ok in
+    λ left. on_ok_weaker c.put_answers.result
+    (λ within. match-stays c.args.limits.now (g.F.Shelf.files c.args.shelf.now) shape left graph c.in-Ok-read_patterns.patterns c.args.steps.now c.put_answers.new.steps judged within)
+    c.put_answers.ensures.steps

@@ -1,3 +1,4 @@
+use Rattle.std.proofs.Common.{arith}
 use Rattle.std.proofs.lemmas.Result.{err_from_is_err_and, on_ok_weaker, on_err_weaker}
 use Rattle.flux_model.specs.Reading.{update_reading}
 use Rattle.flux_model.specs.LentLine.{seen_line}
@@ -31,3 +32,7 @@ returns-in_ok-report_line-in-Some-clause-err g c =
 
 pub returns-in_ok-report_line-in-Some-clause-puts : goal.returns-in_ok-report_line-in-Some-clause-puts
 returns-in_ok-report_line-in-Some-clause-puts g c = NoEmptyPut-trans _ _ _ c.in_ok-report_line-in-Some.ensures.puts c.end_report-in-Some.ensures.puts
+
+pub returns-in_ok-report_line-in-Some-clause-steps : goal.returns-in_ok-report_line-in-Some-clause-steps
+returns-in_ok-report_line-in-Some-clause-steps g c =
+    rw c.in-Some.is (on_ok_weaker c.end_report-in-Some.result (λ put. omega (arith, c.in_ok-report_line-in-Some.ensures.steps)) c.end_report-in-Some.ensures.ok)

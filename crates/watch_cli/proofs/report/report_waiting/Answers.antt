@@ -1,10 +1,11 @@
-use Rattle.std.proofs.Common.{◌≡◌, ◌+◌, ap, arith, refl, [], subst, List}
-use Rattle.std.proofs.lemmas.Result.{err_from_is_err_and, on_err_weaker}
+use Rattle.std.proofs.Common.{◌≡◌, ◌+◌, ◌∙◌, ap, arith, refl, [], subst, List}
+use Rattle.std.proofs.lemmas.Result.{err_from_is_err_and, on_ok_weaker, on_err_weaker}
 use Rattle.flux_model.specs.Lines.{InputLine}
 use Rattle.flux_model.specs.LentLine.{seen_line}
 use Rattle.watch_core.specs.Session.{WatchState, said_by}
 use Rattle.watch_core.specs.SessionStates.{watched}
 use Rattle.watch_cli.proofs.ReportLemmas.{Reported, Reported-turn, Reported-stops, Reported-end_short, one_less, nothing_waits}
+use Rattle.watch_cli.proofs.CostLemmas.{waiting-turn}
 use Rattle.flux_outside.proofs.ReadsLemmas.{NoEmptyPut-trans}
 use Rattle.watch_cli.proofs.report.report_waiting.Goals as goal
 
@@ -24,6 +25,9 @@ loop-line-preserved g c =
       later = omega (arith, c.loop-line.invariant.later, c.in_ok-report_line.ensures.later);
       puts = NoEmptyPut-trans _ _ _ c.loop-line.invariant.puts c.in_ok-report_line.ensures.puts;
       whole = c.in_ok-report_line.ensures.whole;
+      trees = c.in_ok-report_line.ensures.trees ∙ c.loop-line.invariant.trees;
+      spent = rw c.pass.ensures (waiting-turn (watched c.loop-line.session) (watched c.report_line.new.session) c.loop-line.session.registry.trees c.args.session.now.registry.trees c.loop-line.lines.queue
+          (seen_line c.in-Some.line) c.loop-line.steps c.report_line.new.steps _ c.in-Some.ensures c.in_ok-report_line.ensures.after c.loop-line.invariant.trees c.in_ok-report_line.ensures.steps c.loop-line.invariant.spent);
     }
 
 pub returns-clause-err : goal.returns-clause-err
@@ -39,3 +43,6 @@ returns-in_err-report_line-clause-puts g c = NoEmptyPut-trans _ _ _ c.loop-line.
 
 pub returns-clause-puts : goal.returns-clause-puts
 returns-clause-puts g c = NoEmptyPut-trans _ _ _ c.loop-line.invariant.puts c.put_report.ensures.puts
+
+pub returns-clause-steps : goal.returns-clause-steps
+returns-clause-steps g c = on_ok_weaker c.put_report.result (λ put. omega (arith, c.loop-line.invariant.spent)) c.put_report.ensures.empty

@@ -11,3 +11,6 @@ returns-in-Err-clause-end g c = early-done c.in-Err.status _ c.in-Err.ensures.ea
 
 pub returns-in-Err-clause-kept : goal.returns-in-Err-clause-kept
 returns-in-Err-clause-kept g c = early-kept c.args.limits.now (g.F.Shelf.files c.args.shelf.now) (shape_of (texts c.args.words.now)) (g.S.Source.left c.args.updates.now) c.in-Err.status c.in-Err.ensures.early
+
+pub returns-in-Err-clause-steps : goal.returns-in-Err-clause-steps
+returns-in-Err-clause-steps g c = early-done c.in-Err.status _ c.in-Err.ensures.early

@@ -1,4 +1,4 @@
-use Rattle.std.proofs.Common.{◌≡◌, ◌+◌, ◌≤◌, length, refl, ap, arith}
+use Rattle.std.proofs.Common.{◌≡◌, ◌+◌, ◌≤◌, ◌∙◌, length, refl, ap, arith}
 use Rattle.std.proofs.lemmas.Result.{err_from_is_err_and, on_ok_weaker, on_err_weaker, IfErr-weaker}
 use Rattle.std.proofs.lemmas.Grind.{common_steps}
 use Rattle.stream_lines.specs.Lent.{one_line}
@@ -10,7 +10,8 @@ use Rattle.flux_model.specs.Verdict.{Watched, ending_with, written_before}
 use Rattle.watch_cli.specs.RunEnds.{EndsAs, EndsAtFault}
 use Rattle.watch_core.specs.Session.{WatchState}
 use Rattle.watch_core.specs.SessionStates.{watched}
-use Rattle.watch_cli.proofs.ReportLemmas.{Followed-start, Followed-next, lines_fit, some_lines_fit}
+use Rattle.watch_cli.proofs.ReportLemmas.{lines_fit, some_lines_fit}
+use Rattle.watch_cli.proofs.CostLemmas.{FollowedAt-start, FollowedAt-next, followed-all}
 use Rattle.watch_cli.proofs.FollowLemmas.{Consumes-none, Followed-before, Followed-fault, Followed-long, Followed-stops, Followed-done, Followed-done_short, Followed-stands, write-ends, write-early}
 use Rattle.watch_cli.proofs.AskedByRunLemmas.{writing-reads_not, writing-no_file, written-reads_not, written-no_file}
 use Rattle.watch_cli.proofs.updates.follow.Goals as goal
@@ -20,7 +21,8 @@ loop-count-init g c = record {
   within = omega arith;
   buffer = c.in-Ok.ensures;
   empty = c.new-report.ensures.items;
-  followed = Followed-start _ _ _ _ _ c.new-lines.ensures;
+  followed = FollowedAt-start _ _ _ _ _ c.args.session.now.registry.trees c.args.steps.now c.new-lines.ensures;
+  trees = refl;
   asked = Asking-source _ _;
   puts = NoEmptyPut-none _;
   read_later = omega arith;
@@ -30,33 +32,33 @@ loop-count-init g c = record {
 
 pub returns-in_default-read-clause-front : goal.returns-in_default-read-clause-front
 returns-in_default-read-clause-front g c =
-    Followed-before c.args.limits.now c.args.session.now.graph c.args.session.now.registry.patterns _ _ _ _ _ _ _ _ c.requires.first c.loop-count.invariant.followed c.loop-count.invariant.within
+    Followed-before c.args.limits.now c.args.session.now.graph c.args.session.now.registry.patterns _ _ _ _ _ _ _ _ c.requires.first c.loop-count.invariant.followed.followed c.loop-count.invariant.within
 
 pub returns-in_default-read-clause-status : goal.returns-in_default-read-clause-status
 returns-in_default-read-clause-status g c = (
   omega (arith, c.loop-count.invariant.read_later, c.in_default-read.ensures.cause.failed),
-  Followed-fault c.args.limits.now c.args.session.now.graph c.args.session.now.registry.patterns _ _ _ _ _ _ _ _ c.requires.first _ c.loop-count.invariant.followed c.in_default-read.ensures.bytes,
+  Followed-fault c.args.limits.now c.args.session.now.graph c.args.session.now.registry.patterns _ _ _ _ _ _ _ _ c.requires.first _ c.loop-count.invariant.followed.followed c.in_default-read.ensures.bytes,
 )
 
 pub returns-then-count-room-clause-front : goal.returns-then-count-room-clause-front
 returns-then-count-room-clause-front g c =
-    Followed-before c.args.limits.now c.args.session.now.graph c.args.session.now.registry.patterns _ _ _ _ _ _ _ _ c.requires.first c.loop-count.invariant.followed c.loop-count.invariant.within
+    Followed-before c.args.limits.now c.args.session.now.graph c.args.session.now.registry.patterns _ _ _ _ _ _ _ _ c.requires.first c.loop-count.invariant.followed.followed c.loop-count.invariant.within
 
 pub returns-then-count-room-clause-status : goal.returns-then-count-room-clause-status
 returns-then-count-room-clause-status g c =
     let bound : c.in-Ok-read.count ≤ length c.read.new.buf = c.in-Ok-read.ensures.bound.0 in
     let asked : length c.read.new.buf ≡ c.ask_for.result = grind (arith, common_steps) in
-    Followed-long c.args.limits.now c.args.session.now.graph c.args.session.now.registry.patterns _ _ _ _ _ _ _ _ c.requires.first _ c.in-Ok-read.count _ c.loop-count.invariant.followed
+    Followed-long c.args.limits.now c.args.session.now.graph c.args.session.now.registry.patterns _ _ _ _ _ _ _ _ c.requires.first _ c.in-Ok-read.count _ c.loop-count.invariant.followed.followed
     c.in-Ok-read.ensures.bytes.0 c.in-Ok-read.ensures.bound.1 (omega arith) (omega (arith, bound, asked, c.loop-count.invariant.within, c.if-count-room.true, c.ask_for.ensures.within))
 
 pub returns-in_default-push-clause-front : goal.returns-in_default-push-clause-front
 returns-in_default-push-clause-front g c =
-    Followed-before c.args.limits.now c.args.session.now.graph c.args.session.now.registry.patterns _ _ _ _ _ _ _ _ c.requires.first c.loop-count.invariant.followed c.loop-count.invariant.within
+    Followed-before c.args.limits.now c.args.session.now.graph c.args.session.now.registry.patterns _ _ _ _ _ _ _ _ c.requires.first c.loop-count.invariant.followed.followed c.loop-count.invariant.within
 
 pub report_waiting-requires-clause-fits : goal.report_waiting-requires-clause-fits
 report_waiting-requires-clause-fits g c =
     let fit : c.loop-count.session.lines + length c.push.new.self.queue ≤ c.args.session.now.lines + (c.loop-count.given + c.in-Ok-read.count) =
-    lines_fit _ _ _ _ _ _ _ _ _ _ _ _ c.loop-count.invariant.followed c.in-Ok-push.ensures.lines c.in-Ok-read.ensures.bound.1 in
+    lines_fit _ _ _ _ _ _ _ _ _ _ _ _ c.loop-count.invariant.followed.followed c.in-Ok-push.ensures.lines c.in-Ok-read.ensures.bound.1 in
     omega (arith, fit, ap (λ (s : WatchState). s.lines) c.requires.first, c.if-count-room.false, c.loop-count.invariant.within, c.requires.fair.input_bytes.1)
 
 pub loop-count-preserved : goal.loop-count-preserved
@@ -66,8 +68,10 @@ loop-count-preserved g c =
       within = omega (arith, c.if-count-room.false, c.loop-count.invariant.within);
       buffer = c.loop-count.invariant.buffer;
       empty = c.in_ok-report_waiting.ensures.empty;
-      followed = Followed-next _ _ _ _ _ _ _ _ _ _ _ _ _ _ _ _ c.loop-count.invariant.followed c.in-Ok-read.ensures.bytes.0 c.in-Ok-read.ensures.bound.1
-          c.in-Ok-push.ensures.lines c.in-Ok-push.ensures.line_bytes c.in_ok-report_waiting.ensures.ok c.in_ok-report_waiting.ensures.after c.in_ok-report_waiting.ensures.waiting;
+      followed = FollowedAt-next _ _ _ _ _ _ _ _ _ _ _ _ _ _ _ _ c.args.session.now.registry.trees c.loop-count.session.registry.trees c.args.steps.now c.loop-count.steps c.report_waiting.new.steps c.loop-count.invariant.followed c.in-Ok-read.ensures.bytes.0 c.in-Ok-read.ensures.bound.1
+          c.in-Ok-push.ensures.lines c.in-Ok-push.ensures.line_bytes c.in_ok-report_waiting.ensures.ok c.in_ok-report_waiting.ensures.after c.in_ok-report_waiting.ensures.waiting
+          c.loop-count.invariant.trees c.in_ok-report_waiting.ensures.steps;
+      trees = c.in_ok-report_waiting.ensures.trees ∙ c.loop-count.invariant.trees;
       read_later = omega (arith, c.loop-count.invariant.read_later, c.in-Ok-read.ensures.cause.later);
       later = omega (arith, c.loop-count.invariant.later, c.in_ok-report_waiting.ensures.later);
       whole = c.in_ok-report_waiting.ensures.whole;
@@ -79,7 +83,7 @@ loop-count-preserved g c =
 pub returns-in_err-report_waiting-clause-front : goal.returns-in_err-report_waiting-clause-front
 returns-in_err-report_waiting-clause-front g c =
     let p = err_from_is_err_and c.from_residual.result c.from_residual.ensures.1 in
-    rw p.1 (Followed-stops c.args.limits.now c.args.session.now.graph c.args.session.now.registry.patterns _ _ _ _ _ _ _ _ c.requires.first _ _ c.in-Ok-read.count _ _ c.loop-count.invariant.followed
+    rw p.1 (Followed-stops c.args.limits.now c.args.session.now.graph c.args.session.now.registry.patterns _ _ _ _ _ _ _ _ c.requires.first _ _ c.in-Ok-read.count _ _ c.loop-count.invariant.followed.followed
     c.in-Ok-read.ensures.bytes.0 c.in-Ok-read.ensures.bound.1 (omega (arith, c.if-count-room.false, c.loop-count.invariant.within)) c.in-Ok-push.ensures.lines c.in_err-report_waiting.ensures.err)
 
 pub returns-in_err-report_waiting-clause-status : goal.returns-in_err-report_waiting-clause-status
@@ -98,14 +102,14 @@ returns-in_err-report_waiting-clause-early g c =
 
 pub report_end-requires-clause-fits : goal.report_end-requires-clause-fits
 report_end-requires-clause-fits g c =
-    let fit : c.loop-count.session.lines ≤ c.args.session.now.lines + c.loop-count.given = some_lines_fit _ _ _ _ _ _ _ _ _ c.loop-count.invariant.followed in
+    let fit : c.loop-count.session.lines ≤ c.args.session.now.lines + c.loop-count.given = some_lines_fit _ _ _ _ _ _ _ _ _ c.loop-count.invariant.followed.followed in
     omega (arith, fit, ap (λ (s : WatchState). s.lines) c.requires.first, c.loop-count.invariant.within, c.requires.fair.input_bytes.1)
 
 pub returns-clause-ok : goal.returns-clause-ok
 returns-clause-ok g c =
     let zero : c.in-Ok-read.count ≡ 0 = omega (arith, c.if-count-eq0.true) in
     on_ok_weaker c.report_end.result
-    (λ put. Followed-done c.args.limits.now c.args.session.now.graph c.args.session.now.registry.patterns _ _ _ _ _ _ _ _ c.requires.first _ _ (one_line c.last.result) c.loop-count.invariant.followed
+    (λ put. Followed-done c.args.limits.now c.args.session.now.graph c.args.session.now.registry.patterns _ _ _ _ _ _ _ _ c.requires.first _ _ (one_line c.last.result) c.loop-count.invariant.followed.followed
     (Consumes-none _ _ _ _ zero c.in-Ok-read.ensures.bytes.0) (c.in-Ok-read.ensures.bytes.1 zero (grind (arith, common_steps))) c.loop-count.invariant.within c.last.ensures.lines put)
     c.report_end.ensures.ok
 
@@ -113,7 +117,7 @@ pub returns-clause-after : goal.returns-clause-after
 returns-clause-after g c =
     let zero : c.in-Ok-read.count ≡ 0 = omega (arith, c.if-count-eq0.true) in
     on_ok_weaker c.report_end.result
-    (λ after. Followed-stands c.args.limits.now c.args.session.now.graph c.args.session.now.registry.patterns _ _ _ _ _ _ _ _ c.requires.first _ (watched c.report_end.new.session) (one_line c.last.result) c.loop-count.invariant.followed
+    (λ after. Followed-stands c.args.limits.now c.args.session.now.graph c.args.session.now.registry.patterns _ _ _ _ _ _ _ _ c.requires.first _ (watched c.report_end.new.session) (one_line c.last.result) c.loop-count.invariant.followed.followed
     (Consumes-none _ _ _ _ zero c.in-Ok-read.ensures.bytes.0) (c.in-Ok-read.ensures.bytes.1 zero (grind (arith, common_steps))) c.last.ensures.lines after)
     c.report_end.ensures.after
 
@@ -121,7 +125,7 @@ pub returns-clause-front : goal.returns-clause-front
 returns-clause-front g c =
     let zero : c.in-Ok-read.count ≡ 0 = omega (arith, c.if-count-eq0.true) in
     on_err_weaker c.report_end.result
-    (λ front. Followed-done_short c.args.limits.now c.args.session.now.graph c.args.session.now.registry.patterns _ _ _ _ _ _ _ _ c.requires.first _ _ (one_line c.last.result) c.loop-count.invariant.followed
+    (λ front. Followed-done_short c.args.limits.now c.args.session.now.graph c.args.session.now.registry.patterns _ _ _ _ _ _ _ _ c.requires.first _ _ (one_line c.last.result) c.loop-count.invariant.followed.followed
     (Consumes-none _ _ _ _ zero c.in-Ok-read.ensures.bytes.0) (c.in-Ok-read.ensures.bytes.1 zero (grind (arith, common_steps))) c.loop-count.invariant.within c.last.ensures.lines front)
     c.report_end.ensures.err
 
@@ -186,3 +190,14 @@ returns-clause-no_file g c = written-no_file c.report_end.result _ _ c.report_en
 
 pub returns-clause-puts : goal.returns-clause-puts
 returns-clause-puts g c = NoEmptyPut-trans _ _ _ c.loop-count.invariant.puts c.report_end.ensures.puts
+
+-- ---- what was spent
+
+pub returns-clause-steps : goal.returns-clause-steps
+returns-clause-steps g c =
+    let zero : c.in-Ok-read.count ≡ 0 = omega (arith, c.if-count-eq0.true) in
+    on_ok_weaker c.report_end.result
+    (λ spent. followed-all c.args.limits.now.line_bytes c.loop-count.given _ _ _ _ (watched c.args.session.now) (watched c.loop-count.session) c.loop-count.lines c.loop-count.invariant.followed.followed
+    c.args.session.now.registry.trees c.loop-count.session.registry.trees c.loop-count.invariant.trees c.args.steps.now c.loop-count.steps c.report_end.new.steps c.loop-count.invariant.followed.spent
+    _ (one_line c.last.result) (Consumes-none _ _ _ _ zero c.in-Ok-read.ensures.bytes.0) (c.in-Ok-read.ensures.bytes.1 zero (grind (arith, common_steps))) c.last.ensures.lines spent)
+    c.report_end.ensures.steps

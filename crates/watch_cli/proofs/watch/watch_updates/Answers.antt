@@ -1,14 +1,15 @@
-use Rattle.std.proofs.Common.{Some, Ok, Err, inr, refl, sym, subst, arith}
+use Rattle.std.proofs.Common.{Some, Ok, Err, ◌∙◌, inr, refl, sym, ap, subst, arith}
 use Rattle.std.proofs.lemmas.Result.{err_from_is_err_and}
 use Rattle.flux_outside.specs.Causes.{Rose}
 use Rattle.flux_model.specs.Verdict.{Shape, Watch, Watched, Done, graph_file, pattern_file, ending_with}
 use Rattle.file_reading.specs.FileContents.{FileIs}
-use Rattle.watch_core.specs.Session.{WatchState}
+use Rattle.watch_core.specs.Session.{WatchState, first_state}
 use Rattle.watch_core.specs.SessionStates.{watched}
 use Rattle.watch_cli.specs.declared.status.InputFile.TheVariants.{Graph, Patterns}
 use Rattle.watch_cli.proofs.TopLemmas.{Judged, both-judged, graph-judged, patterns-judged, run-before, run-ends, run-ends_before, file-ends, follow-ends, session-stands}
 use Rattle.watch_cli.proofs.FollowLemmas.{EndsAs-before, is_first}
 use Rattle.watch_cli.proofs.AskedByRunLemmas.{ended-stopped, asked-graph, asked-patterns, asked-all, judged-accepted}
+use Rattle.watch_cli.proofs.CostLemmas.{watch-stays}
 use Rattle.watch_cli.proofs.watch.watch_updates.Goals as goal
 
 pub returns-in-Err-clause-front : goal.returns-in-Err-clause-front
@@ -155,3 +156,15 @@ returns-clause-untouched g c =
     (λ m. refl) c.in-Ok.ensures.same c.in-Ok.ensures.ok c.in-Ok-read_patterns.ensures.ok in
     let accepted = judged-accepted c.args.limits.now (g.F.Shelf.files c.args.shelf.now) shape (Watched (g.G.HoldGraph.graph c.in-Ok.graph) c.in-Ok-read_patterns.patterns) judged in
     inr ((λ h. h), accepted)
+
+pub returns-clause-steps : goal.returns-clause-steps
+returns-clause-steps g c =
+    let shape : Shape = Watch c.args.graph_name.now c.args.patterns_name.now in
+    let graph = g.G.HoldGraph.graph c.in-Ok.graph in
+    let patterns = c.in-Ok-read_patterns.patterns in
+    let started = c.in-Ok-start.session in
+    let judged : Judged c.args.limits.now (g.F.Shelf.files c.args.shelf.now) (Some shape) (Ok (Watched graph patterns)) =
+    both-judged Watched shape c.args.graph_name.now c.args.patterns_name.now c.args.limits.now (g.F.Shelf.files c.args.shelf.now) (g.F.Shelf.files c.read_store.new.shelf) graph patterns
+    (λ m. refl) c.in-Ok.ensures.same c.in-Ok.ensures.ok c.in-Ok-read_patterns.ensures.ok in
+    watch-stays c.args.limits.now (g.F.Shelf.files c.args.shelf.now) shape (g.S.Source.left c.args.updates.now) graph patterns (watched started) started.registry.trees c.args.steps.now c.start.new.steps c.follow.new.steps
+    judged (c.in-Ok-start.ensures.state ∙ ap (λ l. first_state l graph patterns) c.in-Ok.ensures.limits) c.in-Ok-start.ensures.trees c.in-Ok-start.ensures.steps c.in_ok-follow.ensures.steps
