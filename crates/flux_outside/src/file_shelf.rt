@@ -30,6 +30,7 @@ pub struct FileShelf<'a, R: Files> {
     kept: Option<KeptFile<R::File>>,
     calls: Calls,
     faults: u64,
+    seed: u64,
 }
 
 // An open file, its name, and the place where it stands.
@@ -53,8 +54,15 @@ impl<'a, R: Files> Model for FileShelf<'a, R> {
 }
 
 impl<'a, R: Files> FileShelf<'a, R> {
-    /// The files of this runtime, and no fault yet.
+    /// The files of this runtime, and no fault yet. Its seed is 0.
     pub fn new(alloc: Global, rt: &'a R) -> FileShelf<'a, R>
+        ensures { result ≡ record { reads = []; faults = 0 } }
+    {
+        FileShelf::with_seed(alloc, rt, 0)
+    }
+
+    /// As `new`, with this seed.
+    pub fn with_seed(alloc: Global, rt: &'a R, seed: u64) -> FileShelf<'a, R>
         ensures { result ≡ record { reads = []; faults = 0 } }
     {
         FileShelf {
@@ -63,6 +71,7 @@ impl<'a, R: Files> FileShelf<'a, R> {
             kept: None,
             calls: Calls::new(),
             faults: 0,
+            seed,
         }
     }
 }
@@ -141,6 +150,10 @@ impl<'a, R: Files> Shelf for FileShelf<'a, R> {
     ghost reads = { λ s. s.reads };
 
     ghost faults = { λ s. s.faults };
+
+    fn seed(&self) -> u64 {
+        self.seed
+    }
 
     fn read(&mut self, name: &str, from: u64, buf: &mut [u8]) -> Result<Option<usize>, Failed>
         ensures bound { IfOk result (λ answer. IfSome answer (λ n. n ≤ length buf.new)) }

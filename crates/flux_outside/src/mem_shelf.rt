@@ -31,6 +31,7 @@ pub struct MemShelf {
     calls: Calls,
     faults: u64,
     alloc: Global,
+    seed: u64,
 }
 
 impl Model for MemShelf {
@@ -53,8 +54,15 @@ impl Model for MemShelf {
 }
 
 impl MemShelf {
-    /// A shelf with no names, where no read fails, and with no fault yet.
+    /// A shelf with no names, where no read fails, and with no fault yet. Its seed is 0.
     pub fn new(alloc: Global) -> MemShelf
+        ensures { result ≡ record { entries = []; call = 0; failing = []; reads = []; faults = 0 } }
+    {
+        MemShelf::with_seed(alloc, 0)
+    }
+
+    /// As `new`, with this seed.
+    pub fn with_seed(alloc: Global, seed: u64) -> MemShelf
         ensures { result ≡ record { entries = []; call = 0; failing = []; reads = []; faults = 0 } }
     {
         MemShelf {
@@ -64,6 +72,7 @@ impl MemShelf {
             calls: Calls::new(),
             faults: 0,
             alloc,
+            seed,
         }
     }
 
@@ -123,6 +132,10 @@ impl Shelf for MemShelf {
     ghost reads = { λ s. s.reads };
 
     ghost faults = { λ s. s.faults };
+
+    fn seed(&self) -> u64 {
+        self.seed
+    }
 
     fn read(&mut self, name: &str, from: u64, buf: &mut [u8]) -> Result<Option<usize>, Failed>
         ensures bound { IfOk result (λ answer. IfSome answer (λ n. n ≤ length buf.new)) }

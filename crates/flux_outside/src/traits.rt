@@ -59,6 +59,9 @@ pub trait Shelf {
     /// The count of faults, which never falls.
     ghost faults: { Self → ℕ };
 
+    /// The number that look-ups by hash are to start from, so that nobody can pick keys that collide. Nothing is said of it.
+    fn seed(&self) -> u64;
+
     /// Reads from a place of a file on into the front of the buffer, and says how many bytes. For a
     /// non-empty buffer 0 says that the place is at or past the end. `None` says that there is no
     /// such name, which is no fault.

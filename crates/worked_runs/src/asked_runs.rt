@@ -24,6 +24,10 @@ impl Shelf for NotingShelf {
 
     ghost faults = { λ s. s.shelf.faults };
 
+    fn seed(&self) -> u64 {
+        self.shelf.seed()
+    }
+
     fn read(&mut self, name: &str, from: u64, buf: &mut [u8]) -> Result<Option<usize>, Failed> {
         let _ = self.names.extend_from_slice(name.as_bytes());
         let _ = self.places.push(from);
