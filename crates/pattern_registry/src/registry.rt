@@ -77,7 +77,7 @@ impl Registry {
             let (pattern, cards) = (patterns.get(k), &cards[k]);
             indexes.push(PatternIndex::build(alloc, pattern, cards, graph, steps)?)?;
         }
-        let routes = routes_to(alloc, &patterns)?;
+        let routes = routes_to(alloc, &patterns, graph.seed())?;
         Ok(Registry {
             alloc,
             patterns,

@@ -8,6 +8,7 @@ ghost use Rattle.pattern_registry.specs.Routes.{route, with_place, AreRoutes};
 
 use flux_model::{Pattern, PatternEdge, Patterns, Text};
 use indexmap::IndexMap;
+use seeded_hash::SeededState;
 use std::alloc::{AllocError, Global};
 
 /// The places of some patterns, ascending.
@@ -17,13 +18,13 @@ pub(crate) struct Route {
 }
 
 /// For each label that an edge has, the places of the patterns that have such an edge.
-pub(crate) type Routes = IndexMap<Text, Route>;
+pub(crate) type Routes = IndexMap<Text, Route, SeededState>;
 
-/// The routes to these patterns.
-pub(crate) fn routes_to(alloc: Global, patterns: &Patterns) -> Result<Routes, AllocError>
+/// The routes to these patterns. Labels are hashed from `seed`.
+pub(crate) fn routes_to(alloc: Global, patterns: &Patterns, seed: u64) -> Result<Routes, AllocError>
     ensures { IfOk result (λ routes. AreRoutes patterns.now routes.entries) }
 {
-    let mut routes = Routes::new(alloc);
+    let mut routes = Routes::with_hasher(alloc, SeededState::new(seed));
     for k in 0..patterns.count() {
         add_pattern(alloc, &mut routes, k, patterns.get(k))?;
     }
