@@ -1,5 +1,5 @@
-// Ids whose hashes end alike in a table with the library's hasher and the seed 0, one a line:
-//   colliding_ids BITS COUNT
+// A graph of vertices whose ids have hashes that end alike in a store with the seed SEED:
+//   colliding_ids SEED BITS COUNT
 #include <cstdint>
 #include <cstdio>
 #include <cstdlib>
@@ -12,17 +12,20 @@ static u64 folded(u64 a, u64 b) {
   return u64(product) ^ u64(product >> 64);
 }
 
-static u32 hash(u32 id) {
-  u64 word = folded(0x243f6a8885a308d3ull ^ (u64(id) | u64(id) << 32), 0x9e3779b97f4a7c15ull ^ 8);
+static u64 state_of(u64 seed) { return folded(0x243f6a8885a308d3ull ^ seed, 0x9e3779b97f4a7c15ull ^ 16); }
+
+static u32 hash(u64 state, u32 id) {
+  u64 word = folded(state ^ (u64(id) | u64(id) << 32), 0x9e3779b97f4a7c15ull ^ 8);
   return u32(word ^ (word >> 32));
 }
 
 int main(int count, char **words) {
-  if (count != 3) return 2;
-  u32 mask = (1u << atoi(words[1])) - 1;
-  u64 wanted = u64(atoll(words[2])), got = 0;
+  if (count != 4) return 2;
+  u64 state = state_of(strtoull(words[1], nullptr, 10));
+  u32 mask = (1u << atoi(words[2])) - 1;
+  u64 wanted = u64(atoll(words[3])), got = 0;
   for (u64 id = 0; id < (1ull << 32) && got < wanted; id++)
-    if ((hash(u32(id)) & mask) == (0x1234 & mask)) {
+    if ((hash(state, u32(id)) & mask) == (0x1234 & mask)) {
       printf("v %u\n", u32(id));
       got++;
     }

@@ -7,6 +7,7 @@ use std::alloc::Global;
 use std::env::Env;
 use std::io::ErrorKind;
 use std::process::ExitCode;
+use std::random::RandomSource;
 use std::{env, io};
 use watch_cli::{Status, run};
 
@@ -30,6 +31,15 @@ fn without_words(error: &io::Error, err: &mut impl Sink) -> ExitCode {
     ExitCode::from(status.number())
 }
 
+/// The number that look-ups hash from, drawn from the system's random source; 0 where the draw fails.
+fn seed_of(rt: &impl RandomSource) -> u64 {
+    let mut bytes = [0; 8];
+    match rt.fill_bytes(&mut bytes) {
+        Ok(()) => u64::from_le_bytes(bytes),
+        Err(_) => 0,
+    }
+}
+
 fn main(rt: HostRuntime) -> ExitCode {
     let alloc = rt.alloc();
     let mut err = StderrSink::new(rt.stderr());
@@ -37,7 +47,7 @@ fn main(rt: HostRuntime) -> ExitCode {
         Ok(words) => words,
         Err(error) => return without_words(&error, &mut err),
     };
-    let mut shelf = FileShelf::new(alloc, &rt);
+    let mut shelf = FileShelf::with_seed(alloc, &rt, seed_of(&rt));
     let mut updates = StdinSource::new(rt.stdin());
     let mut out = StdoutSink::new(rt.stdout());
     let mut steps = Steps::new(Silent);

@@ -78,19 +78,19 @@ fn work<F: Shelf, S: Source, W: Sink, L: Ledger>(
 {
     match shape {
         Shape::Watch { graph, patterns } => {
-            let empty = BlockGraph::new(alloc, limits);
+            let empty = BlockGraph::with_seed(alloc, limits, shelf.seed());
             let session = watch_updates(
                 alloc, limits, graph, patterns, empty, shelf, updates, out, steps,
             )?;
             Ok(Kept::Watch(session))
         }
         Shape::Match { graph, patterns } => {
-            let empty = BlockGraph::new(alloc, limits);
+            let empty = BlockGraph::with_seed(alloc, limits, shelf.seed());
             list_answers(alloc, limits, graph, patterns, empty, shelf, out, steps)?;
             Ok(Kept::Nothing)
         }
         Shape::Save { graph } => {
-            let empty = BlockGraph::new(alloc, limits);
+            let empty = BlockGraph::with_seed(alloc, limits, shelf.seed());
             save_graph(alloc, limits, graph, empty, shelf, out, steps)?;
             Ok(Kept::Nothing)
         }

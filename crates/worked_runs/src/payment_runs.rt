@@ -19,8 +19,10 @@ v 2 Merchant\n\
 e 0 2 buys\n\
 e 1 2 buys\n";
 
+// Each of the two runs hashes from a seed that no other has.
 const ROWS: [Run; 2] = [
     Run {
+        seed: 1,
         graph: "# Accounts and merchants.\n\
 v 1 Account\n\
 v 2 Account\n\
@@ -58,6 +60,7 @@ e 2 91 buys\n\
         ..WATCH
     },
     Run {
+        seed: u64::MAX,
         graph: "v 1 Account\n\
 v 2 Account\n\
 v 3 Account\n\

@@ -21,6 +21,8 @@ pub enum Lower {
 pub struct Run {
     pub words: &'static [&'static str],
     pub lower: Lower,
+    /// The seed of the shelf.
+    pub seed: u64,
     /// The file `g`.
     pub graph: &'static str,
     /// The file `p`.
@@ -50,6 +52,7 @@ pub const PATTERN: &str = "p ab hom\nv 0 A\nv 1 B\ne 0 1 r\n";
 pub const WATCH: Run = Run {
     words: &["watch", "g", "p"],
     lower: Lower::None,
+    seed: 0,
     graph: GRAPH,
     patterns: PATTERN,
     failing_files: &[],
@@ -162,7 +165,7 @@ pub(crate) fn words_of(alloc: Global, words: &[&str]) -> Result<Vec<String>, All
 
 /// A shelf with the two files of a run.
 pub(crate) fn shelf_of(alloc: Global, row: &Run) -> Result<MemShelf, AllocError> {
-    let mut shelf = MemShelf::new(alloc);
+    let mut shelf = MemShelf::with_seed(alloc, row.seed);
     shelf.add("g", row.graph.as_bytes())?;
     shelf.add("p", row.patterns.as_bytes())?;
     for call in row.failing_files {
