@@ -16,6 +16,8 @@ pub mod PatternFile
 pub mod Embedding
 pub mod Change
 pub mod Report
+pub mod Generated
+pub mod Demo
 pub mod Verdict
 pub mod Deltas
 pub mod Grown
