@@ -57,7 +57,7 @@ def example(name):
 
 
 def payments(name, graph, words, updates=b""):
-    return Row(name, words, {"graph": example(graph), "patterns": example("payments.patterns")}, updates)
+    return Row(name, words, {"graph": example(graph), "patterns": example("payments/patterns")}, updates)
 
 
 def wide():
@@ -85,9 +85,9 @@ WATCH, MATCH, SAVE = ("watch", "graph", "patterns"), ("match", "graph", "pattern
 
 def small_rows():
     return [
-        payments("payments", "payments.graph", WATCH, example("payments.updates")),
-        payments("payments, `match`", "payments-later.graph", MATCH),
-        payments("payments, `save`", "payments-later.graph", SAVE),
+        payments("payments", "payments/graph", WATCH, example("payments/updates")),
+        payments("payments, `match`", "payments/later.graph", MATCH),
+        payments("payments, `save`", "payments/later.graph", SAVE),
         Row("triangle", WATCH, TRIANGLE, b"e 3 1 r\n-e 3 1 r\n"),
         Row("people", WATCH, PEOPLE, b"e 102 900 likes\ne 102 100 knows\n-e 101 900 likes\nv 901 Post\n-v 901\n"),
         Row("loops", WATCH, LOOPS, b"e 1 1 r\ne 1 2 r\ne 1 2 s\n-e 1 2 r\nv 7 A\n-v 7\n-e 1 1 r\n"),

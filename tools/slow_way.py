@@ -1,6 +1,6 @@
 """What turboflux is due to write, worked out the slow way: every embedding of every pattern, before and after each line.
 
-Written from the README alone. Nothing here was taken from the program, and no care is taken of speed.
+Written from the README and docs/FORMATS.md alone. Nothing here was taken from the program, and no care is taken of speed.
 """
 import re
 from collections import Counter, namedtuple
