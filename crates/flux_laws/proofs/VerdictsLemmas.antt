@@ -14,7 +14,7 @@ use Rattle.flux_model.specs.GraphText.{graph_text}
 use Rattle.flux_model.specs.Pattern.{PatternGraph}
 use Rattle.flux_model.specs.PatternFile.{close, empty_draft, patterns_after_line}
 use Rattle.flux_model.specs.Report.{blocks, end_line_of, outcomes, watch_text}
-use Rattle.flux_model.specs.Verdict.{Shape, Watch, Match, Save, Verdict, TooMuch, BadGraph, Files, Watched, Matched, Saved, file_as, graph_file, accepted, blocks_of, Ending, ending_with, ends_with, written_before}
+use Rattle.flux_model.specs.Verdict.{Shape, Watch, Match, Save, Demo, Verdict, TooMuch, BadGraph, Files, Watched, Matched, Saved, Shown, file_as, graph_file, accepted, blocks_of, Ending, ending_with, ends_with, written_before}
 use Rattle.flux_model.specs.declared.code.Bad.{Bad}
 use Rattle.flux_model.specs.declared.limits.Limits.{Limits}
 use Rattle.flux_model.proofs.FileReadingLemmas.{read_from-append}
@@ -67,6 +67,7 @@ saved_accepted limits files saved shape g e room few at same = by shape (ap (gra
     by (Watch graph patterns) graphs names = rw (graphs, names) refl
     by (Match graph patterns) graphs names = rw (graphs, names) refl
     by (Save graph) graphs names = rw graphs refl
+    by (Demo number) graphs names = refl
 
 -- the run ends the same
 pub saved_the_same : SavedGraphWritesTheSame
@@ -180,3 +181,4 @@ written limits (Watched g qs) r s (rest, e) few =
     (front_of_either (nat_lt limits.input_bytes (length (r ++ rest))) _ _ _ (front_of_first limits g qs r rest few) (front_of_all limits g qs r rest))
 written limits (Matched g qs) r s front few = ((ending_with limits s (Matched g qs)).text, refl)
 written limits (Saved g) r s front few = ((ending_with limits s (Saved g)).text, refl)
+written limits (Shown number) r s front few = ((ending_with limits s (Shown number)).text, refl)

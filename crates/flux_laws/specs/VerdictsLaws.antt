@@ -6,17 +6,19 @@ use Rattle.flux_model.specs.Graph.{Graph}
 use Rattle.flux_model.specs.GraphFile.{read_graph, graph_of}
 use Rattle.flux_model.specs.GraphText.{graph_text}
 use Rattle.flux_model.specs.PatternFile.{read_patterns, patterns_of}
-use Rattle.flux_model.specs.Verdict.{Shape, Watch, Match, Save, Files, Accepted, graph_file, ending_of, ending_with, written_before}
+use Rattle.flux_model.specs.Verdict.{Shape, Watch, Match, Save, Demo, Files, Accepted, graph_file, ending_of, ending_with, written_before}
 use Rattle.flux_model.specs.declared.code.Bad.{Bad}
 use Rattle.flux_model.specs.declared.limits.Limits.{Limits}
 use Rattle.flux_laws.specs.TextsLaws.{longest_line}
 
 -- ---- a graph that was saved
 
+-- `demo` names no file
 abbrev pub graph_name : Shape → List ℕ
 graph_name (Watch graph patterns) = graph
 graph_name (Match graph patterns) = graph
 graph_name (Save graph) = graph
+graph_name (Demo number) = []
 
 -- The pattern file, where the words name one, is the same among both. Where it is the graph file as well, this says that the
 -- file held the text of the graph before.
@@ -24,6 +26,7 @@ abbrev pub HaveSamePatterns : Files → Files → Shape → Type 0
 HaveSamePatterns files saved (Watch graph patterns) = saved patterns ≡ files patterns
 HaveSamePatterns files saved (Match graph patterns) = saved patterns ≡ files patterns
 HaveSamePatterns files saved (Save graph) = Unit {0}
+HaveSamePatterns files saved (Demo number) = Unit {0}
 
 -- with the text of the graph in the place of the graph file, a run ends as it did and writes what it wrote
 abbrev pub SavedGraphWritesTheSame : Type 0

@@ -3,7 +3,7 @@ use Rattle.std.specs.Prelude.{◌≡◌, ℕ, None, Some, List, [], ◌∷◌, c
 use Rattle.std.specs.Str.{bytes_eq}
 use Rattle.std.specs.Fmt.{digits}
 use Rattle.flux_model.specs.Limits.{standard}
-use Rattle.flux_model.specs.Verdict.{Done, Usage, NoFile, TooMuch, BadGraph, BadPatterns, Files, Ending, ending_for, shape_of}
+use Rattle.flux_model.specs.Verdict.{Done, Usage, NoFile, TooMuch, BadGraph, BadPatterns, Files, Ending, ending_for, Demo, shape_of}
 use Rattle.flux_model.specs.declared.code.Code.TheVariants as code
 use Rattle.flux_model.specs.declared.limits.Limits.{Limits}
 
@@ -104,3 +104,26 @@ too_few_words = refl
 
 unknown_word : ends standard ab ab_pattern (codes "demo" ∷ codes "x" ∷ []) [] ≡ record { verdict = Usage; text = [] }
 unknown_word = refl
+
+-- ---- the number of a demonstration
+
+small_number : shape_of (codes "demo" ∷ codes "7" ∷ []) ≡ Some (Demo 7)
+small_number = refl
+
+zeros_in_front : shape_of (codes "demo" ∷ codes "007" ∷ []) ≡ Some (Demo 7)
+zeros_in_front = refl
+
+largest_number : shape_of (codes "demo" ∷ codes "18446744073709551615" ∷ []) ≡ Some (Demo 18446744073709551615)
+largest_number = refl
+
+too_large_number : shape_of (codes "demo" ∷ codes "18446744073709551616" ∷ []) ≡ None
+too_large_number = refl
+
+too_many_digits : shape_of (codes "demo" ∷ codes "000000000000000000007" ∷ []) ≡ None
+too_many_digits = refl
+
+no_number : shape_of (codes "demo" ∷ [] ∷ []) ≡ None
+no_number = refl
+
+signed_number : shape_of (codes "demo" ∷ codes "+7" ∷ []) ≡ None
+signed_number = refl

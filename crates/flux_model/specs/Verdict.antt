@@ -3,7 +3,7 @@ use Rattle.std.specs.Prelude.{ℕ, ◌&&◌, nat_lt, List, [], ◌∷◌, length
 use Rattle.std.specs.Result.{result_map_both}
 use Rattle.std.specs.Str.{bytes_eq}
 use Rattle.flux_model.specs.Lines.{InputLine, lines, whole}
-use Rattle.flux_model.specs.Reading.{graph_reading, update_reading, pattern_reading}
+use Rattle.flux_model.specs.Reading.{digits_value, graph_reading, update_reading, pattern_reading}
 use Rattle.flux_model.specs.FileReading.{result_and_then}
 use Rattle.flux_model.specs.Graph.{Graph}
 use Rattle.flux_model.specs.GraphFile.{read_graph, graph_of}
@@ -11,23 +11,27 @@ use Rattle.flux_model.specs.GraphText.{graph_text}
 use Rattle.flux_model.specs.Pattern.{PatternGraph}
 use Rattle.flux_model.specs.PatternFile.{read_patterns, patterns_of}
 use Rattle.flux_model.specs.Report.{blocks, watch_text, match_text}
+use Rattle.flux_model.specs.Demo.{is_demo_number, demo_text}
 use Rattle.flux_model.specs.declared.code.Bad.{Bad}
 use Rattle.flux_model.specs.declared.limits.Limits.{Limits}
 
 -- ---- what the words of the command line ask for
 
--- with the names of the files
+-- with the names of the files, or the number whose files are made
 pub data Shape : Type 0 where
   Watch : (graph patterns : List ℕ) → Shape
   Match : (graph patterns : List ℕ) → Shape
   Save : (graph : List ℕ) → Shape
+  Demo : (number : ℕ) → Shape
 
--- `watch GRAPH PATTERNS`, `match GRAPH PATTERNS` or `save GRAPH`
+-- `watch GRAPH PATTERNS`, `match GRAPH PATTERNS`, `save GRAPH` or `demo NUMBER`
 abbrev pub shape_of : List (List ℕ) → Option Shape
 shape_of (command ∷ graph ∷ patterns ∷ []) =
     if bytes_eq command (codes "watch") then Some (Watch graph patterns)
     else if bytes_eq command (codes "match") then Some (Match graph patterns) else None
-shape_of (command ∷ graph ∷ []) = if bytes_eq command (codes "save") then Some (Save graph) else None
+shape_of (command ∷ word ∷ []) =
+    if bytes_eq command (codes "save") then Some (Save word)
+    else if bytes_eq command (codes "demo") && is_demo_number word then Some (Demo (digits_value word)) else None
 shape_of words = None
 
 -- ---- what becomes of the files
@@ -60,11 +64,12 @@ abbrev pub pattern_file : Limits → Option (List ℕ) → Result (List PatternG
 pattern_file limits file =
     file_as limits.input_bytes (λ b. read_patterns limits (map pattern_reading (whole limits.line_bytes b))) (patterns_of limits) BadPatterns file
 
--- what the files are accepted as
+-- what the files are accepted as; the files of a number are made and not read
 pub data Accepted : Type 0 where
   Watched : Graph → List PatternGraph → Accepted
   Matched : Graph → List PatternGraph → Accepted
   Saved : Graph → Accepted
+  Shown : (number : ℕ) → Accepted
 
 -- first the graph file is judged, and then the pattern file
 abbrev pub accepted : Limits → Files → Shape → Result Accepted Verdict
@@ -73,6 +78,7 @@ accepted limits files (Watch graph patterns) =
 accepted limits files (Match graph patterns) =
     result_and_then (λ g. result_and_then (λ qs. Ok (Matched g qs)) (pattern_file limits (files patterns))) (graph_file limits (files graph))
 accepted limits files (Save graph) = result_and_then (λ g. Ok (Saved g)) (graph_file limits (files graph))
+accepted limits files (Demo number) = Ok (Shown number)
 
 -- ---- what is written
 
@@ -92,6 +98,7 @@ ending_with limits s (Watched g qs) =
     else record { verdict = Done; text = watch_text limits g qs (map update_reading (lines limits.line_bytes s)) }
 ending_with limits s (Matched g qs) = record { verdict = Done; text = match_text g qs }
 ending_with limits s (Saved g) = record { verdict = Done; text = graph_text g }
+ending_with limits s (Shown number) = record { verdict = Done; text = demo_text number }
 
 -- a run that ends at its words or files writes nothing
 abbrev pub ends_with : (Accepted → Ending) → Result Accepted Verdict → Ending
@@ -118,3 +125,4 @@ abbrev pub written_before : Limits → Accepted → List ℕ → List ℕ
 written_before limits (Watched g qs) r = blocks_of limits g qs (whole limits.line_bytes r)
 written_before limits (Matched g qs) r = []
 written_before limits (Saved g) r = []
+written_before limits (Shown number) r = []
