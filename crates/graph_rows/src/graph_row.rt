@@ -44,6 +44,8 @@ impl<'a> GraphRow<'a> {
     /// The other end of the next triple of the label, from the place `from` on, and the place after it.
     ///
     /// `None` where no such triple is left. It takes one step for each triple that it passes, and one more at the row's end.
+    // It is the step of every search along a row, and too long for the compiler to take it in by itself.
+    #[inline(always)]
     pub fn next<G: ReadGraph<L>, L: Ledger>(
         &self,
         graph: &G,
