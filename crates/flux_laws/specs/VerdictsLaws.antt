@@ -1,5 +1,5 @@
 -- Laws of how a run is due to end, and of what it is due to have written.
-use Rattle.std.specs.Prelude.{◌≡◌, ℕ, ◌≤◌, List, ◌++◌, length, take, map, Some, Ok, Err}
+use Rattle.std.specs.Prelude.{◌≡◌, ℕ, ◌≤◌, List, [], ◌++◌, length, take, map, Some, Ok, Err}
 use Rattle.flux_model.specs.Lines.{whole}
 use Rattle.flux_model.specs.Reading.{graph_reading, pattern_reading}
 use Rattle.flux_model.specs.Graph.{Graph}
