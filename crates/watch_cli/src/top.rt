@@ -16,6 +16,7 @@ ghost use Rattle.watch_cli.specs.Kept.{HasKept};
 ghost use Rattle.watch_cli.specs.RunCosts.{RunStaysWithin};
 
 use crate::answers::list_answers;
+use crate::demo::show_demo;
 use crate::save::save_graph;
 use crate::status::Status;
 use crate::watch::watch_updates;
@@ -92,6 +93,11 @@ fn work<F: Shelf, S: Source, W: Sink, L: Ledger>(
         Shape::Save { graph } => {
             let empty = BlockGraph::with_seed(alloc, limits, shelf.seed());
             save_graph(alloc, limits, graph, empty, shelf, out, steps)?;
+            Ok(Kept::Nothing)
+        }
+        Shape::Demo { number } => {
+            let empty = BlockGraph::with_seed(alloc, &Limits::standard(), shelf.seed());
+            show_demo(alloc, number, empty, out, steps)?;
             Ok(Kept::Nothing)
         }
     }
@@ -172,6 +178,9 @@ fn tell<E: Sink>(status: Status, err: &mut E)
 ///
 /// `save GRAPH` reads the graph file, and writes the one text of its graph to `out`, in one piece. `match` and `save` take nothing of
 /// the updates.
+///
+/// `demo NUMBER` makes the files of the number, watches them under the standard limits, and writes the summary to `out`, in one piece. Of
+/// the shelf it takes the seed alone, and nothing of the updates.
 pub fn run<F: Shelf, S: Source, W: Sink, E: Sink, L: Ledger>(
     alloc: Global,
     words: &[String],
