@@ -114,7 +114,8 @@ fn put_all<G: ReadGraph<L>, W: Sink, L: Ledger>(
     // Each pattern counts in 64 bits, and there are fewer patterns than 2^64.
     let mut total: u128 = 0;
     for k in 0..registry.patterns().count() {
-        total += put_pattern(registry, k, graph, &mut report, out, steps)? as u128;
+        let count = put_pattern(registry, k, graph, &mut report, out, steps)?;
+        total += count as u128;
     }
     put_total(total, &mut report, out)
 }

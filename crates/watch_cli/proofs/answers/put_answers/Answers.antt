@@ -13,19 +13,19 @@ returns-in_default-clause-err g c = AppendsFront-nothing _ _
 pub returns-clause-ok : goal.returns-clause-ok
 returns-clause-ok g c =
     on_ok_weaker c.put_all.result
-    (λ put. subst (λ qs. Appends (g.W.Sink.taken c.args.out.now) (g.W.Sink.taken c.put_all.new.out) (match_text (g.G.HoldGraph.graph c.args.graph.now) qs)) c.in_ok-registry.ensures.patterns put)
+    (λ put. subst (λ qs. Appends (g.W.Sink.taken c.args.out.now) (g.W.Sink.taken c.put_all.new.out) (match_text (g.G.HoldGraph.graph c.args.graph.now) qs)) c.in-Ok.ensures.patterns put)
     c.put_all.ensures.ok
 
 pub returns-clause-err : goal.returns-clause-err
 returns-clause-err g c =
     on_err_weaker c.put_all.result
-    (λ front. subst (λ qs. AppendsFront (g.W.Sink.taken c.args.out.now) (g.W.Sink.taken c.put_all.new.out) (match_text (g.G.HoldGraph.graph c.args.graph.now) qs)) c.in_ok-registry.ensures.patterns front)
+    (λ front. subst (λ qs. AppendsFront (g.W.Sink.taken c.args.out.now) (g.W.Sink.taken c.put_all.new.out) (match_text (g.G.HoldGraph.graph c.args.graph.now) qs)) c.in-Ok.ensures.patterns front)
     c.put_all.ensures.err
 
 pub returns-clause-steps : goal.returns-clause-steps
 returns-clause-steps g c =
-    let registry = c.in_ok-registry.registry in
+    let registry = c.in-Ok.registry in
     on_ok_weaker c.put_all.result
     (λ within. answers-stay (g.G.HoldGraph.graph c.args.graph.now) c.args.patterns registry.patterns registry.trees c.args.steps.now c.start.new.steps c.put_all.new.steps
-    c.in_ok-registry.ensures.patterns c.in_ok-registry.ensures.trees c.in_ok-registry.ensures.steps within)
+    c.in-Ok.ensures.patterns c.in-Ok.ensures.trees c.in-Ok.ensures.steps within)
     c.put_all.ensures.steps
