@@ -1,4 +1,4 @@
-use Rattle.std.proofs.Common.{◌≡◌, ◌++◌, ◌∙◌, List, [], ◌∷◌, sym, ap}
+use Rattle.std.proofs.Common.{◌≡◌, ◌++◌, ◌∙◌, [], ◌∷◌, sym, ap}
 use Rattle.std.specs.Fmt.{decimal}
 use Rattle.line_words.specs.Words.{spaced}
 use Rattle.flux_model.proofs.GrownLemmas.{on_err, grew_same, grew_first, grew_later}
