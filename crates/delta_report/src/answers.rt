@@ -9,7 +9,8 @@ ghost use Rattle.delta_report.specs.Sorted.{AreSorted};
 
 use crate::map_words::end_map_line;
 use flux_model::{Deltas, Map, Maps, Patterns};
-use line_words::{end_line, start_line};
+use itoa::Buffer;
+use line_words::{end_line, write_word};
 use std::alloc::AllocError;
 
 /// Sorts the maps of each delta, and writes for each delta a line `m NAME IDS` for each map that was gained, and at the
@@ -31,7 +32,7 @@ pub fn write_answers(
 {
     deltas.sort()?;
     let total = write_each(patterns, deltas, out)?;
-    write_total(total, out)
+    write_total(total as u128, out)
 }
 
 /// Writes the lines of each delta, the maps as they stand, and says how many these are.
@@ -58,13 +59,15 @@ fn write_maps(name: &[u8], maps: &Maps, out: &mut Vec<u8>) -> Result<(), AllocEr
     ensures err { OnErr result (GrewByFront out.old.items out.new.items (flat_map (answer_line name.now) maps.now)) }
 {
     for i in 0..maps.len() {
-        write_map(name, maps.get(i), out)?;
+        write_answer(name, maps.get(i), out)?;
     }
     Ok(())
 }
 
-/// Writes the line of a map.
-fn write_map(name: &[u8], map: &Map, out: &mut Vec<u8>) -> Result<(), AllocError>
+/// Writes the line `m NAME IDS` of an embedding.
+///
+/// At `AllocError` a front part of the line was written.
+pub fn write_answer(name: &[u8], map: &Map, out: &mut Vec<u8>) -> Result<(), AllocError>
     ensures ok { OnOk result (out.new.items ≡ out.old.items ++ answer_line name.now map.now) }
     ensures err { OnErr result (GrewByFront out.old.items out.new.items (answer_line name.now map.now)) }
 {
@@ -72,11 +75,15 @@ fn write_map(name: &[u8], map: &Map, out: &mut Vec<u8>) -> Result<(), AllocError
     end_map_line(name, map, out)
 }
 
-/// Writes the last line.
-fn write_total(total: usize, out: &mut Vec<u8>) -> Result<(), AllocError>
+/// Writes the last line of a listing, `= TOTAL`: how many embeddings it has. Those of several patterns may come to more than 64 bits hold.
+///
+/// At `AllocError` a front part of the line was written.
+pub fn write_total(total: u128, out: &mut Vec<u8>) -> Result<(), AllocError>
     ensures ok { OnOk result (out.new.items ≡ out.old.items ++ total_line total) }
     ensures err { OnErr result (GrewByFront out.old.items out.new.items (total_line total)) }
 {
-    start_line(b'=', total as u64, out)?;
+    let mut digits = Buffer::new();
+    out.push(b'=')?;
+    write_word(digits.format(total).as_bytes(), out)?;
     end_line(out)
 }

@@ -5,7 +5,7 @@
 //!
 //! - `block`: `write_deltas`, what each pattern gained and lost at an update.
 //! - `lines`: `write_refusal` and `write_end`, lines that stand alone.
-//! - `answers`: `write_answers`, all embeddings and their number.
+//! - `answers`: `write_answer` and `write_total`, the lines of all embeddings, one by one, and their number; `write_answers`, all of them.
 //! - `map_words`: what the line of a map ends with.
 #![tactic(auto)]
 
@@ -16,6 +16,6 @@ mod map_words;
 #[cfg(test)]
 mod tests;
 
-pub use answers::write_answers;
+pub use answers::{write_answer, write_answers, write_total};
 pub use block::write_deltas;
 pub use lines::{write_end, write_refusal};

@@ -1,18 +1,23 @@
 -- Deltas of answers that a loop makes pattern by pattern.
-use Rattle.std.proofs.Common.{◌≡◌, ℕ, suc, ◌+◌, ◌<◌, Bool, true, false, cond, nat_lt, List, [], ◌∷◌, ◌++◌, length, take, refl, sym, ap, subst, ◌∙◌, arith, Some}
+use Rattle.std.proofs.Common.{◌≡◌, ℕ, zero, suc, ◌+◌, ◌<◌, ◌≤◌, Bool, true, false, cond, nat_lt, List, [], ◌∷◌, ◌++◌, length, take, refl, sym, ap, subst, ◌∙◌, arith, Some}
 use Rattle.std.specs.Prelude.{IsPermutation}
 use Rattle.std.specs.List.{slice_get}
 use Rattle.std.proofs.lemmas.List.{length-append, length-take}
 use Rattle.std.proofs.lemmas.List.Sorted.{IsPermutation-sym, IsPermutation-refl, length_permutation}
-use Rattle.std.proofs.lemmas.Option.{slice_get_within}
+use Rattle.std.proofs.lemmas.Option.{slice_get_within, same_Some}
+use Rattle.flux_model.specs.Costs.{no_dead_end_cost}
 use Rattle.flux_model.specs.Graph.{Graph}
 use Rattle.flux_model.specs.Pattern.{PatternGraph}
 use Rattle.flux_model.specs.Embedding.{embeddings}
+use Rattle.flux_model.specs.Tree.{QueryTree}
 use Rattle.flux_model.specs.declared.maps.Delta.{Delta}
 use Rattle.flux_model.specs.Deltas.{IsReordered, AreReordered, with_delta, answer_deltas}
 use Rattle.flux_model.proofs.DeltasLemmas.{with_delta-append}
 use Rattle.flux_model.proofs.PlaceLemmas.{take_next}
 use Rattle.tree_search.specs.Members.{GrewByAll}
+use Rattle.tree_search.specs.SearchCosts.{MeetsNoDeadEnd}
+use Rattle.pattern_registry.specs.AnswerCosts.{AnswerStaysWithin}
+use Rattle.pattern_registry.specs.States.{PatternStates}
 use Rattle.pattern_registry.proofs.ZipLemmas.{AllZip-append}
 
 -- what was found from nothing on is all, in some order
@@ -20,6 +25,12 @@ pub found-all : {X : Type 0} (old new all : List X) → old ≡ [] → GrewByAll
 found-all old new all none grew =
     let is : new ≡ grew.more = grew.is ∙ ap (λ l. l ++ grew.more) none in
     subst (IsPermutation all) (sym is) (IsPermutation-sym grew.more all grew.permutation)
+
+-- below its length a list has an element
+pub at_place : {X : Type 0} (xs : List X) (k : ℕ) → k < length xs → (x : X) × (slice_get xs k ≡ Some x)
+at_place [] k below = absurd (omega (arith, below))
+at_place (x ∷ xs) zero below = (x, refl)
+at_place (x ∷ xs) (suc k) below = at_place xs k (omega (arith, below))
 
 -- ---- one pattern more
 
@@ -61,3 +72,13 @@ reordered_next g qs k q old new maps none e maps_are none_is before now =
     rw (answers_next g qs k q e, now)
     (AllZip-append IsReordered (answer_deltas 0 g (take k qs)) (with_delta (answer k g q) []) old (with_delta (record { pattern = k; gained = maps; lost = none }) []) before
     (with_delta-reordered (answer k g q) (record { pattern = k; gained = maps; lost = none }) (record { pattern = refl; gained = maps_are; lost = rw none_is (IsPermutation-refl []) })))
+
+-- ---- the steps of one pattern
+
+-- what the search for a pattern took, by the pattern and the tree at its place
+pub stays_here : (s : PatternStates) (k : ℕ) (g : Graph) (p : PatternGraph) (tree : QueryTree) (old new : ℕ) → slice_get s.patterns k ≡ Some p → slice_get s.trees k ≡ Some tree
+    → (MeetsNoDeadEnd p tree → new ≤ old + no_dead_end_cost p tree g) → AnswerStaysWithin s k g old new
+stays_here s k g p tree old new here tree_here within q t is tree_is live =
+    let pattern : p ≡ q = same_Some p q (sym here ∙ is) in
+    let its_tree : tree ≡ t = same_Some tree t (sym tree_here ∙ tree_is) in
+    subst (λ c. new ≤ old + c) (λ i. no_dead_end_cost (pattern i) (its_tree i) g) (within (subst (λ (T : Type 0). T) (λ i. MeetsNoDeadEnd (sym pattern i) (sym its_tree i)) live))

@@ -1,17 +1,18 @@
 //! `Registry`: the patterns of a run, and what is kept of each.
 ghost use Rattle.std.specs.Prelude.{◌≡◌, ◌<◌, ◌≤◌, ◌+◌, ◌*◌, ℕ, length, slice_get, false, true};
-ghost use Rattle.std.specs.Prelude.{Some, Ok, Err, IfOk, IfErr, OnOk, OnErr};
+ghost use Rattle.std.specs.Prelude.{Some, Ok, Err, IfOk, IfErr, OnOk, OnErr, IsPermutation};
 ghost use Rattle.std.specs.FinMap.{len};
 ghost use Rattle.std.specs.List.{zip, sum_by};
 ghost use Rattle.std.specs.Option.{option_map};
 ghost use Rattle.flux_model.specs.Costs.{start_cost, update_cost};
 ghost use Rattle.flux_model.specs.Deltas.{answer_deltas, change_deltas, AreReordered};
+ghost use Rattle.flux_model.specs.Embedding.{embeddings};
 ghost use Rattle.flux_model.specs.Graph.{Graph, IsGraph, apply, has_triple};
 ghost use Rattle.flux_model.specs.declared.graph.Update.TheVariants.{AddVertex, DropVertex, AddEdge, DropEdge};
 ghost use Rattle.flux_model.specs.Pattern.{PatternGraph, vertex_count};
 ghost use Rattle.flux_model.specs.Tree.{BelongsTo};
 ghost use Rattle.pattern_registry.specs.States.{trees_over, IsIndexed, AreExact};
-ghost use Rattle.pattern_registry.specs.AnswerCosts.{MeetNoDeadEnd, no_dead_end_costs};
+ghost use Rattle.pattern_registry.specs.AnswerCosts.{AnswerStaysWithin, MeetNoDeadEnd, no_dead_end_costs};
 
 use crate::index::PatternIndex;
 use crate::routes::{Routes, route_of, routes_to};
@@ -104,9 +105,7 @@ impl Registry {
     {
         let mut deltas = Deltas::new(self.alloc);
         for k in 0..self.patterns.count() {
-            let pattern = self.patterns.get(k);
-            let index = self.index_of(k);
-            let gained = index.embeddings(self.alloc, pattern, graph, steps)?;
+            let gained = self.answers_of(k, graph, steps)?;
             let delta = Delta {
                 pattern: k,
                 gained,
@@ -115,6 +114,29 @@ impl Registry {
             deltas.add_unless_empty(delta)?;
         }
         Ok(deltas)
+    }
+
+    /// All embeddings of the pattern at place `k`, counted from 0, which has to be below the number of patterns, in the graph, over which
+    /// the rows have to be exact.
+    ///
+    /// They stand in some order. Where the pattern is of mode `Hom` and its tree leaves out no edge, the search has no dead end: it takes
+    /// no more steps than the vertices of the graph and the rows that lead to the embeddings account for. `AllocError` where no memory
+    /// is left.
+    pub fn answers_of<G: ReadGraph<L>, L: Ledger>(
+        &self,
+        k: usize,
+        graph: &G,
+        steps: &mut Steps<L>,
+    ) -> Result<Maps, AllocError>
+        requires exact { AreExact self.now (G.graph graph.now) }
+        requires pattern { k < length self.now.patterns }
+        ensures answers { IfOk result (λ maps. (q : PatternGraph) → slice_get self.now.patterns k ≡ Some q
+            → IsPermutation (embeddings q (G.graph graph.now)) maps) }
+        ensures steps { OnOk result (AnswerStaysWithin self.now k (G.graph graph.now) steps.old steps.new) }
+    {
+        let pattern = self.patterns.get(k);
+        let index = self.index_of(k);
+        index.embeddings(self.alloc, pattern, graph, steps)
     }
 
     /// Changes the graph, over which the rows have to be exact, and the rows with it: what each pattern gains and loses by the

@@ -20,7 +20,7 @@ use stream_lines::Lines;
 use watch_core::Session;
 
 /// How long a report may grow before it is put.
-const LONG: usize = 65536;
+pub const LONG: usize = 65536;
 
 /// Puts the report, if there is one, and begins a new one.
 pub fn put_report<W: Sink>(report: &mut Vec<u8>, out: &mut W) -> Result<(), Status>

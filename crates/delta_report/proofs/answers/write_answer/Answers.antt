@@ -3,7 +3,7 @@ use Rattle.flux_model.specs.Grown.{GrewByFront}
 use Rattle.flux_model.proofs.GrownLemmas.{grew_same, grew_later}
 use Rattle.delta_report.specs.MapWords.{map_words}
 use Rattle.delta_report.proofs.MapWordsLemmas.{answer_line-parts, written_both}
-use Rattle.delta_report.proofs.answers.write_map.Goals as goal
+use Rattle.delta_report.proofs.answers.write_answer.Goals as goal
 
 pub returns-clause-ok : goal.returns-clause-ok
 returns-clause-ok c =
