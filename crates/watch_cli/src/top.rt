@@ -174,7 +174,8 @@ fn tell<E: Sink>(status: Status, err: &mut E)
 /// `watch GRAPH PATTERNS` reads the two files, takes the updates line by line, and writes the block of each line and at last the end
 /// line to `out`. Each input is read in pieces of at most 64 KiB. The blocks of all whole lines of a piece are put before the next read.
 ///
-/// `match GRAPH PATTERNS` reads the two files, and writes all embeddings and how many these are to `out`, in one piece.
+/// `match GRAPH PATTERNS` reads the two files, and writes all embeddings and how many these are to `out`, pattern by pattern and in
+/// pieces of about 64 KiB.
 ///
 /// `save GRAPH` reads the graph file, and writes the one text of its graph to `out`, in one piece. `match` and `save` take nothing of
 /// the updates.
