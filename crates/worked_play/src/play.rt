@@ -82,7 +82,7 @@ pub const SAVE: Run = Run {
 };
 
 /// Whether the run ends with these updates as its row says, and writes what it says.
-pub(crate) fn is_right(alloc: Global, row: &Run, updates: &[u8]) -> Result<bool, AllocError> {
+pub fn is_right(alloc: Global, row: &Run, updates: &[u8]) -> Result<bool, AllocError> {
     let limits = limits_of(row.lower);
     if !limits.fair() {
         return Ok(false);
@@ -110,7 +110,7 @@ pub(crate) fn is_right(alloc: Global, row: &Run, updates: &[u8]) -> Result<bool,
 }
 
 /// Runs, and says how that ended.
-pub(crate) fn end_of<F: Shelf, S: Source, W: Sink>(
+pub fn end_of<F: Shelf, S: Source, W: Sink>(
     alloc: Global,
     words: &[String],
     limits: &Limits,
@@ -127,7 +127,7 @@ pub(crate) fn end_of<F: Shelf, S: Source, W: Sink>(
 }
 
 /// How many rows, from the first on, end and write as they should.
-pub(crate) fn count_right(alloc: Global, rows: &[Run]) -> Result<usize, AllocError> {
+pub fn count_right(alloc: Global, rows: &[Run]) -> Result<usize, AllocError> {
     for i in 0..rows.len() {
         if !is_right(alloc, &rows[i], rows[i].updates.as_bytes())? {
             return Ok(i);
@@ -137,7 +137,7 @@ pub(crate) fn count_right(alloc: Global, rows: &[Run]) -> Result<usize, AllocErr
 }
 
 /// The standard limits with one below.
-pub(crate) fn limits_of(lower: Lower) -> Limits {
+pub fn limits_of(lower: Lower) -> Limits {
     let standard = Limits::standard();
     match lower {
         Lower::None => standard,
@@ -155,7 +155,7 @@ pub(crate) fn limits_of(lower: Lower) -> Limits {
 }
 
 /// The words as a command line has them.
-pub(crate) fn words_of(alloc: Global, words: &[&str]) -> Result<Vec<String>, AllocError> {
+pub fn words_of(alloc: Global, words: &[&str]) -> Result<Vec<String>, AllocError> {
     let mut all = Vec::new(alloc);
     for word in words {
         all.push(String::from_str(alloc, word)?)?;
@@ -164,7 +164,7 @@ pub(crate) fn words_of(alloc: Global, words: &[&str]) -> Result<Vec<String>, All
 }
 
 /// A shelf with the two files of a run.
-pub(crate) fn shelf_of(alloc: Global, row: &Run) -> Result<MemShelf, AllocError> {
+pub fn shelf_of(alloc: Global, row: &Run) -> Result<MemShelf, AllocError> {
     let mut shelf = MemShelf::with_seed(alloc, row.seed);
     shelf.add("g", row.graph.as_bytes())?;
     shelf.add("p", row.patterns.as_bytes())?;

@@ -1,0 +1,26 @@
+//! Triples of their parts.
+use crate::unmade::Unmade;
+use flux_model::{Code, Text, Triple};
+use graph_traits::KeepGraph;
+use std::alloc::Global;
+
+/// A source, a label and a target.
+pub type Parts = (u32, &'static str, u32);
+
+/// The triple of these parts.
+pub fn triple_of(alloc: Global, parts: Parts) -> Result<Triple, Unmade> {
+    let (src, label, dst) = parts;
+    if !Text::is_text(label.as_bytes()) {
+        return Err(Unmade::Refused(Code::Label));
+    }
+    let label = Text::from_bytes(alloc, label.as_bytes())?;
+    Ok(Triple { src, label, dst })
+}
+
+/// Inserts the triple of these parts.
+pub fn insert<G: KeepGraph>(alloc: Global, graph: &mut G, parts: Parts) -> Result<(), Unmade> {
+    match graph.insert(&triple_of(alloc, parts)?)? {
+        Ok(()) => Ok(()),
+        Err(code) => Err(Unmade::Refused(code)),
+    }
+}
