@@ -1,4 +1,4 @@
-//! Triples of their parts.
+//! Texts of words, and triples of their parts.
 use crate::unmade::Unmade;
 use flux_model::{Code, Text, Triple};
 use graph_traits::KeepGraph;
@@ -7,13 +7,18 @@ use std::alloc::Global;
 /// A source, a label and a target.
 pub type Parts = (u32, &'static str, u32);
 
+/// The text of this word.
+pub fn text_of(alloc: Global, word: &str) -> Result<Text, Unmade> {
+    if !Text::is_text(word.as_bytes()) {
+        return Err(Unmade::Refused(Code::Label));
+    }
+    Ok(Text::from_bytes(alloc, word.as_bytes())?)
+}
+
 /// The triple of these parts.
 pub fn triple_of(alloc: Global, parts: Parts) -> Result<Triple, Unmade> {
     let (src, label, dst) = parts;
-    if !Text::is_text(label.as_bytes()) {
-        return Err(Unmade::Refused(Code::Label));
-    }
-    let label = Text::from_bytes(alloc, label.as_bytes())?;
+    let label = text_of(alloc, label)?;
     Ok(Triple { src, label, dst })
 }
 
