@@ -4,6 +4,6 @@
 mod play;
 
 pub use play::{
-    GRAPH, Lower, MATCH, PATTERN, Run, SAVE, WATCH, count_right, end_of, is_right, limits_of, shelf_of,
-    words_of,
+    GRAPH, Lower, MATCH, PATTERN, Run, SAVE, WATCH, count_right, end_of, files_of, is_right,
+    limits_of, shelf_of, words_of,
 };

@@ -1,5 +1,7 @@
 //! A run over files, updates and outputs in memory.
+ghost use Rattle.std.specs.Prelude.{◌≡◌, Some, IfOk, codes};
 ghost use Rattle.flux_model.specs.Limits.{IsFair};
+ghost use Rattle.flux_outside.specs.MemShelf.{bytes_of};
 
 use flux_model::{Limits, Silent, Steps};
 use flux_outside::{MemShelf, MemSink, MemSource, Shelf, Sink, Source};
@@ -163,13 +165,22 @@ pub fn words_of(alloc: Global, words: &[&str]) -> Result<Vec<String>, AllocError
     Ok(all)
 }
 
-/// A shelf with the two files of a run.
+/// A shelf with the two files of a run, of which the reads of these numbers fail.
 pub fn shelf_of(alloc: Global, row: &Run) -> Result<MemShelf, AllocError> {
-    let mut shelf = MemShelf::with_seed(alloc, row.seed);
-    shelf.add("g", row.graph.as_bytes())?;
-    shelf.add("p", row.patterns.as_bytes())?;
+    let mut shelf = files_of(alloc, row)?;
     for call in row.failing_files {
         shelf.fail_at(*call)?;
     }
+    Ok(shelf)
+}
+
+/// A shelf with the two files of a run.
+pub fn files_of(alloc: Global, row: &Run) -> Result<MemShelf, AllocError>
+    ensures graph { IfOk result (λ shelf. bytes_of shelf.entries (codes "g") ≡ Some row.now.graph) }
+    ensures patterns { IfOk result (λ shelf. bytes_of shelf.entries (codes "p") ≡ Some row.now.patterns) }
+{
+    let mut shelf = MemShelf::with_seed(alloc, row.seed);
+    shelf.add("g", row.graph.as_bytes())?;
+    shelf.add("p", row.patterns.as_bytes())?;
     Ok(shelf)
 }

@@ -70,7 +70,7 @@ fn says_part(said: &Said<PatternPart>, want: &Want) -> bool {
 }
 
 const SIXTEEN: [&str; 16] = [
-    "a", "", "c", "d", "e", "f", "g", "h", "i", "j", "k", "l", "m", "n", "o", "p",
+    "a", "b", "c", "d", "e", "f", "g", "h", "i", "j", "k", "l", "m", "n", "o", "p",
 ];
 
 /// A line, and what it has to say.
@@ -130,7 +130,7 @@ const UPDATE_LINES: [Row; 14] = [
 ];
 
 const PATTERN_LINES: [Row; 14] = [
-    (Line::Held(b"p ab iso"), Name("a", Mode::Iso)),
+    (Line::Held(b"p ab iso"), Name("ab", Mode::Iso)),
     (Line::Held(b"v 3 A"), Vertex(3, &["A"])),
     (Line::Held(b"e 0 31 r"), Edge(0, 31, "r")),
     (Line::Held(b""), Nothing),

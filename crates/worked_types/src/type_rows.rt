@@ -53,7 +53,7 @@ fn texts_are_ordered_by_bytes(rt: HostRuntime) -> Result<(), Fail> {
 /// Whether the copy of a triple has its parts.
 fn is_copied(alloc: Global) -> Result<bool, Unmade> {
     let copy = triple_of(alloc, (7, "knows", 4294967295))?.copy()?;
-    Ok(copy.src == 7 && copy.label.bytes() == b"knows" && copy.dst == 4294967295)
+    Ok(copy.src == 7 && copy.label.bytes() == b"knows".as_slice() && copy.dst == 4294967295)
 }
 
 #[test]
