@@ -124,7 +124,7 @@ def main():
         before, _, rest = file.read().partition(BEGIN)
     _, _, after = rest.partition(END)
     with open(PAGE, "w", encoding="utf-8") as file:
-        file.write(before + BEGIN + text + END + after)
+        file.write(before + BEGIN + text + "\n" + END + after)
 
 
 if __name__ == "__main__":
