@@ -27,7 +27,7 @@ pub(crate) fn write_block(
     taken: Taken,
     report: &mut Vec<u8>,
 ) -> Result<(), AllocError>
-    requires { (g : Graph) × (came_to : Outcome) × IsTakenOver patterns.now g came_to taken }
+    requires taken { (g : Graph) × (came_to : Outcome) × IsTakenOver patterns.now g came_to taken }
     ensures ok { OnOk result ((g : Graph) (came_to : Outcome) → IsTakenOver patterns.now g came_to taken
         → report.new.items ≡ report.old.items ++ block_of number patterns.now g came_to) }
     ensures err { OnErr result ((g : Graph) (came_to : Outcome) → IsTakenOver patterns.now g came_to taken
