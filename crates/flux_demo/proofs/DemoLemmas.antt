@@ -1,5 +1,5 @@
 -- The summary of a run over the files of a number.
-use Rattle.std.proofs.Common.{◌≡◌, ℕ, ◌+◌, ◌<◌, ◌≤◌, ◌^◌, List, [], ◌∷◌, ◌++◌, length, map, Ok, Some, refl, sym, ap, subst, ◌∙◌, arith, count_by, Contains, IsTrue}
+use Rattle.std.proofs.Common.{◌≡◌, ℕ, ◌+◌, ◌<◌, ◌≤◌, ◌^◌, List, [], ◌∷◌, ◌++◌, length, map, Result, Ok, Err, IfOk, Some, refl, sym, ap, subst, ◌∙◌, arith, count_by, Contains, IsTrue}
 use Rattle.std.proofs.lemmas.List.{length-map}
 use Rattle.std.proofs.lemmas.Option.{slice_get_within, get_or_from_slice_get}
 use Rattle.std.specs.Prelude.{codes}
@@ -85,6 +85,12 @@ line_count number =
     let read : length (map update_reading ls) ≡ length (map Says us) = ap (λ (saids : List (Said Update)). length saids) (updates_read number 20000 60000 5000 demo_sizes) in
     omega (arith, read, length-map ls update_reading, length-map us Says, updates_all number 20000 60000 5000)
 
+-- few enough for a session that has taken n lines
+pub few-lines : (number n : ℕ) (updates : List ℕ) → n ≡ 0 → updates ≡ (demo_files number).updates → n + length (lines standard.line_bytes updates) ≤ 2 ^ 60
+few-lines number n updates none same =
+    let count : length (lines standard.line_bytes updates) ≡ 5000 = ap (λ (u : List ℕ). length (lines standard.line_bytes u)) same ∙ line_count number in
+    omega (arith, none, count)
+
 -- ---- the summary
 
 module _ (number vertices triples : ℕ) (t : TallyState) (out : List ℕ) where
@@ -119,3 +125,16 @@ module _ (number vertices triples : ℕ) (t : TallyState) (out : List ℕ) where
       summary-is graph demo_patterns saids (a ∙ ap (λ (h : Graph). length h.vertices) same_graph) (b ∙ ap (λ (h : Graph). length h.triples) same_graph) counted refl refl few
       (subst Written same_patterns written)
       ∙ sym (demo_is_summary number)
+
+-- the summary that was written, if it was
+pub demo-written : {T E : Type 0} (r : Result T E) (items : T → List ℕ) (number vertices triples : ℕ) (t : TallyState) (limits : Limits) (g : Graph)
+    (lent patterns : List PatternGraph) (updates : List ℕ) → limits ≡ standard → g ≡ generated_graph number 20000 60000 → lent ≡ patterns
+    → patterns ≡ star ∷ walk ∷ fork ∷ ring ∷ [] → updates ≡ (demo_files number).updates → vertices ≡ length g.vertices → triples ≡ length g.triples
+    → IsTallyOf limits patterns g (said_by (lines standard.line_bytes updates)) t
+    → ((report : List ℕ) → AreCountsOf report lent t → IfOk r (λ s. items s ≡ text_line (codes "demo" ∷ decimal number ∷ [])
+    ++ text_line (codes "graph" ∷ decimal vertices ∷ decimal triples ∷ []) ++ flat_map (counts_line report) lent ++ end_line t.lines t.accepted t.refused))
+    → IfOk r (λ s. items s ≡ demo_text number)
+demo-written (Err e) items number vertices triples t limits g lent patterns updates under same_graph same same_patterns same_updates a b of written = tt
+demo-written (Ok s) items number vertices triples t limits g lent patterns updates under same_graph same same_patterns same_updates a b of written =
+    demo-is number vertices triples t (items s) limits g patterns updates under same_graph same_patterns same_updates a b of
+    (subst (Written number vertices triples t (items s)) same written)
