@@ -147,12 +147,8 @@ fn put_pattern<G: ReadGraph<L>, W: Sink, L: Ledger>(
         let _ = put_report(report, out);
         return Err(Status::Memory);
     };
-    put_maps(
-        registry.patterns().get(k).name().bytes(),
-        &maps,
-        report,
-        out,
-    )?;
+    let name = registry.patterns().get(k).name();
+    put_maps(name.bytes(), &maps, report, out)?;
     Ok(maps.len())
 }
 
