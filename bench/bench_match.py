@@ -3,6 +3,7 @@
 
   bench_match.py --program "path/to/turboflux" [--workloads demo,social,..] [--sizes small,full] [--rounds 3]
                  [--shapes match,save] [--instructions] [--made 10000,100000,1000000] [--dir DIR]
+                 [--json FILE]
 
 CPU is user time (wait4), in ms; RSS is its peak, in MB.  Runs of the program and the peers
 alternate; a ratio is the median of the rounds' own ratios.  Bytes are compared in every run.
@@ -11,6 +12,7 @@ of the workloads, for `save` and for `match` with the four patterns of `demo`.
 """
 import argparse
 import hashlib
+import json
 import os
 import re
 import statistics
@@ -78,6 +80,7 @@ def main():
     a.add_argument("--made", default="")
     a.add_argument("--instructions", action="store_true")
     a.add_argument("--dir", default=os.path.join(tempfile.gettempdir(), "turboflux-peers"))
+    a.add_argument("--json")
     a = a.parse_args()
     os.makedirs(a.dir, exist_ok=True)
     peer = os.path.join(a.dir, "match_all")
@@ -87,7 +90,7 @@ def main():
     prog = a.program.split()
     cases = [made(a.dir, int(e)) for e in a.made.split(",") if e] if a.made else [
         W.ensure(a.dir, n, s) for n in a.workloads.split(",") for s in a.sizes.split(",")]
-    bad = False
+    bad, data = False, {}
     for base in cases:
         g, q = base + ".graph", base + ".patterns"
         lines = sum(1 for _ in open(g, "rb"))
@@ -110,9 +113,15 @@ def main():
             for s in sides:
                 m = lambda k: statistics.median(x[k] for x in got[s])
                 ratio = statistics.median(x["user"] / max(y["user"], 0.5) for x, y in zip(got["program"], got[s]))
-                ins = f"  instructions {instructions(sides[s]) / 1e6:.1f} M" if a.instructions and s != "sort -u" else ""
+                count = instructions(sides[s]) if a.instructions and s != "sort -u" else None
+                ins = f"  instructions {count / 1e6:.1f} M" if count else ""
+                data.setdefault(os.path.basename(base), {}).setdefault(shape, {})[s] = {
+                    "lines": lines, "user": m("user"), "rss": m("rss"), "ratio": ratio, "instructions": count}
                 print(f"  {s:8} user ms {m('user'):9.1f}  sys {m('sys'):7.1f}  RSS MB {m('rss'):7.1f}  program x {ratio:6.2f}"
                       f"  ns a graph line {m('user') * 1e6 / lines:7.0f}{ins}", flush=True)
+    if a.json:
+        with open(a.json, "w") as f:
+            json.dump(data, f, indent=1)
     sys.exit(1 if bad else 0)
 
 

@@ -280,7 +280,9 @@ def with_one_wrong(draw, lines):
 
 
 NO_SHAPES = [[], ["watch"], ["watch", "graph"], ["watch", "graph", "patterns", "x"], ["save"], ["save", "graph", "patterns"], ["match", "graph"],
-             ["Watch", "graph", "patterns"], ["", "graph", "patterns"], ["watch ", "graph", "patterns"], ["-v", "graph"], [b"watch\xff", "graph", "patterns"]]
+             ["Watch", "graph", "patterns"], ["", "graph", "patterns"], ["watch ", "graph", "patterns"], ["-v", "graph"], [b"watch\xff", "graph", "patterns"],
+             ["demo"], ["demo", ""], ["demo", "x"], ["demo", "+7"], ["demo", "-1"], ["demo", "7 "], ["demo", "7", "7"], ["demo", "18446744073709551616"],
+             ["demo", "000000000000000000007"]]
 
 
 def drawn_words(draw):

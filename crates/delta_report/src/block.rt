@@ -7,9 +7,9 @@ ghost use Rattle.delta_report.specs.Block.{delta_lines, deltas_text, HavePattern
 ghost use Rattle.delta_report.specs.Sorted.{AreSorted};
 ghost use Rattle.flux_model.specs.Deltas.{AreReordered};
 
-use crate::map_words::end_map_line;
-use flux_model::{Delta, Deltas, Map, Maps, Patterns};
-use line_words::start_line;
+use crate::map_words::end_map_lines;
+use flux_model::{Delta, Deltas, Maps, Patterns};
+use line_words::{start_line, write_word};
 use std::alloc::AllocError;
 
 /// Sorts the maps of each delta, and writes for each delta a line `+ NUMBER NAME IDS` for each map that was gained, and
@@ -73,23 +73,11 @@ fn write_maps(
     ensures ok { OnOk result (out.new.items ≡ out.old.items ++ flat_map (map_line (sign ∷ []) number name.now) maps.now) }
     ensures err { OnErr result (GrewByFront out.old.items out.new.items (flat_map (map_line (sign ∷ []) number name.now) maps.now)) }
 {
-    for i in 0..maps.len() {
-        write_map(sign, number, name, maps.get(i), out)?;
+    if maps.len() == 0 {
+        return Ok(());
     }
-    Ok(())
-}
-
-/// Writes the line of a map.
-fn write_map(
-    sign: u8,
-    number: u64,
-    name: &[u8],
-    map: &Map,
-    out: &mut Vec<u8>,
-) -> Result<(), AllocError>
-    ensures ok { OnOk result (out.new.items ≡ out.old.items ++ map_line (sign ∷ []) number name.now map.now) }
-    ensures err { OnErr result (GrewByFront out.old.items out.new.items (map_line (sign ∷ []) number name.now map.now)) }
-{
+    let from = out.as_slice().len();
     start_line(sign, number, out)?;
-    end_map_line(name, map, out)
+    write_word(name, out)?;
+    end_map_lines(from, maps, out)
 }

@@ -6,15 +6,13 @@
 //! - `block`: `write_deltas`, what each pattern gained and lost at an update.
 //! - `lines`: `write_refusal` and `write_end`, lines that stand alone.
 //! - `answers`: `write_answer` and `write_total`, the lines of all embeddings, one by one, and their number; `write_answers`, all of them.
-//! - `map_words`: what the line of a map ends with.
+//! - `map_words`: what the line of a map ends with, and lines that begin alike.
 #![tactic(auto)]
 
 mod answers;
 mod block;
 mod lines;
 mod map_words;
-#[cfg(test)]
-mod tests;
 
 pub use answers::{write_answer, write_answers, write_total};
 pub use block::write_deltas;

@@ -3,11 +3,13 @@
 //! There are tests alone here:
 //!
 //! - `draws`: lines of updates, drawn by a number. `slow_way`: their report by trying every list of ids.
-//! - `runs`: both reports of each draw.
+//! - `runs`: both reports of each draw. `generated_runs`: both reports of the files that the generator makes of a number.
 #![tactic(auto)]
 
 #[cfg(test)]
 mod draws;
+#[cfg(test)]
+mod generated_runs;
 #[cfg(test)]
 mod runs;
 #[cfg(test)]

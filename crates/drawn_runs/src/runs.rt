@@ -67,17 +67,29 @@ fn slow_report(alloc: Global, lines: &[Vec<u8>]) -> Result<Vec<u8>, Unmade> {
     Ok(report)
 }
 
-/// Whether `watch` writes this report of the text.
-fn writes(alloc: Global, text: &[u8], report: &[u8]) -> Result<bool, AllocError> {
+/// What a `watch` reads.
+#[derive(Clone, Copy)]
+pub(crate) struct Inputs<'a> {
+    pub(crate) graph: &'a [u8],
+    pub(crate) patterns: &'a [u8],
+    pub(crate) updates: &'a [u8],
+}
+
+/// Whether `watch` writes this report of its inputs.
+pub(crate) fn writes(
+    alloc: Global,
+    inputs: &Inputs<'_>,
+    report: &[u8],
+) -> Result<bool, AllocError> {
     let limits = Limits::standard();
     if !limits.fair() {
         return Ok(false);
     }
     let words = words_of(alloc)?;
     let mut shelf = MemShelf::new(alloc);
-    shelf.add("g", b"")?;
-    shelf.add("p", PATTERNS.as_bytes())?;
-    let mut updates = MemSource::new(alloc, text, &CUTS, &[])?;
+    shelf.add("g", inputs.graph)?;
+    shelf.add("p", inputs.patterns)?;
+    let mut updates = MemSource::new(alloc, inputs.updates, &CUTS, &[])?;
     let mut out = MemSink::new(alloc, ROOM)?;
     let mut err = MemSink::new(alloc, ROOM)?;
     let ended = run(
@@ -107,7 +119,12 @@ fn is_right(alloc: Global, number: u64) -> Result<bool, Unmade> {
     let lines = lines_of(alloc, number)?;
     let report = slow_report(alloc, &lines)?;
     let text = text_of(alloc, &lines)?;
-    Ok(writes(alloc, &text, &report)?)
+    let inputs = Inputs {
+        graph: b"",
+        patterns: PATTERNS.as_bytes(),
+        updates: &text,
+    };
+    Ok(writes(alloc, &inputs, &report)?)
 }
 
 /// How many draws are right from this number on, of as many as one test compares.

@@ -36,6 +36,20 @@ impl SlowWatch {
         })
     }
 
+    /// Takes a line of the graph file, before the first line of the updates. A repeated edge changes nothing.
+    pub(crate) fn graph_line(&mut self, line: &[u8]) -> Result<(), AllocError> {
+        if let Said::Says(update) = read_update_line(self.alloc, &Line::Held(line))? {
+            let _ = self.graph.apply(&update)?;
+        }
+        Ok(())
+    }
+
+    /// Lists what stands before the first line of the updates.
+    pub(crate) fn begin(&mut self) -> Result<(), AllocError> {
+        self.found = all_of_each(self.alloc, &self.patterns, &self.graph)?;
+        Ok(())
+    }
+
     /// Takes a line, of which one byte 13 at its end is dropped, and writes its block.
     pub(crate) fn line(&mut self, line: &[u8], report: &mut Vec<u8>) -> Result<(), AllocError> {
         self.lines = self.lines.saturating_add(1);

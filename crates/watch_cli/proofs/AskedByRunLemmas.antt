@@ -3,7 +3,7 @@ use Rattle.std.proofs.Common.{◌≡◌, ◌⊎◌, ℕ, List, [], ◌++◌, Opt
 use Rattle.std.specs.Prelude.{⊤}
 use Rattle.flux_outside.specs.Told.{Files}
 use Rattle.flux_outside.specs.Reads.{Read, NamedRead, reads_by_name, SourceReads, FileReads, InputReads, LastReadFailed, AskedOfInput}
-use Rattle.flux_model.specs.Verdict.{Shape, Verdict, Accepted}
+use Rattle.flux_model.specs.Verdict.{Shape, Watch, Match, Save, Demo, Verdict, Accepted}
 use Rattle.flux_model.specs.declared.limits.Limits.{Limits}
 use Rattle.file_reading.specs.AskedOfFile.{IsReadStop, NoLineRefused, graph_front, pattern_front}
 use Rattle.file_reading.specs.declared.stop.Stop.{Stop}
@@ -64,6 +64,37 @@ written-no_file (Err s) w0 w1 so = writing-no_file w0 w1 s so
 none_read : (limit : ℕ) → InputReads limit []
 none_read limit = record { asks = tt; within = omega arith }
 
+-- which inputs a run asks that reads its graph file
+abbrev ReadsLater : Shape → (patterns updates : List Read) → Type 0
+ReadsLater (Watch graph patterns_name) patterns updates = ⊤
+ReadsLater (Match graph patterns_name) patterns updates = updates ≡ []
+ReadsLater (Save graph) patterns updates = (patterns ≡ []) × (updates ≡ [])
+ReadsLater (Demo number) patterns updates = ⊥
+
+reads_only : (shape : Shape) (graph patterns updates : List Read) → ReadsLater shape patterns updates → ReadsOnly shape graph patterns updates
+reads_only (Watch _ _) graph patterns updates so = so
+reads_only (Match _ _) graph patterns updates so = so
+reads_only (Save _) graph patterns updates so = so
+reads_only (Demo _) graph patterns updates so = absurd so
+
+-- the files of a number are made, so nothing is asked
+pub asked-none : (limits : Limits) (files : Option Files) (number : ℕ) (at_fault : Type 0) (s : List NamedRead) (u : List Read) → ¬ at_fault
+    → AskedByRun limits files (Demo number) at_fault s s u u
+asked-none limits files number at_fault s u never = record {
+  graph = [];
+  patterns = [];
+  updates = [];
+  of_files = refl;
+  of_updates = refl;
+  graph_reads = none_read limits.input_bytes;
+  pattern_reads = none_read limits.input_bytes;
+  update_reads = none_read limits.input_bytes;
+  only = (refl, refl, refl);
+  patterns_after = inl refl;
+  updates_after = inl refl;
+  fault = λ h. absurd (never h);
+}
+
 module _ (limits : Limits) (files : Option Files) (shape : Shape) (at_fault : Type 0) where
   abbrev GraphAsked : (fault end : Type 0) (s0 s1 : List NamedRead) → Type 0
   GraphAsked fault end s0 s1 = AskedOfInput limits.input_bytes fault end (NoLineRefused files (graph_name shape) (graph_front limits)) (FileReads (graph_name shape) s0 s1)
@@ -72,7 +103,7 @@ module _ (limits : Limits) (files : Option Files) (shape : Shape) (at_fault : Ty
   PatternsAsked files1 fault end s0 s1 = AskedOfInput limits.input_bytes fault end (NoLineRefused files1 (patterns_name shape) (pattern_front limits)) (FileReads (patterns_name shape) s0 s1)
 
   -- it ended at the graph file, or read no other
-  pub asked-graph : (fault end : Type 0) (s0 s1 : List NamedRead) (u : List Read) → (at_fault → fault) → ReadsOnly shape [] []
+  pub asked-graph : (fault end : Type 0) (s0 s1 : List NamedRead) (u : List Read) → (at_fault → fault) → ReadsLater shape [] []
       → GraphAsked fault end s0 s1 → AskedByRun limits files shape at_fault s0 s1 u u
   asked-graph fault end s0 s1 u f only a = record {
     graph = a.reads;
@@ -83,7 +114,7 @@ module _ (limits : Limits) (files : Option Files) (shape : Shape) (at_fault : Ty
     graph_reads = a.input;
     pattern_reads = none_read limits.input_bytes;
     update_reads = none_read limits.input_bytes;
-    only = only;
+    only = reads_only shape a.reads [] [] only;
     patterns_after = inl refl;
     updates_after = inl refl;
     fault = λ h. inl (a.fault (f h), refl, refl);
@@ -97,7 +128,7 @@ module _ (limits : Limits) (files : Option Files) (shape : Shape) (at_fault : Ty
 
   -- it ended at the pattern file, or read no more
   pub asked-patterns : (files1 : Option Files) (fault1 end1 fault2 end2 : Type 0) (s0 s1 s2 : List NamedRead) (u : List Read) → files1 ≡ files → end1 → (at_fault → fault2)
-      → ((ps : List Read) → ReadsOnly shape ps []) → GraphAsked fault1 end1 s0 s1 → PatternsAsked files1 fault2 end2 s1 s2 → AskedByRun limits files shape at_fault s0 s2 u u
+      → ((ps : List Read) → ReadsLater shape ps []) → GraphAsked fault1 end1 s0 s1 → PatternsAsked files1 fault2 end2 s1 s2 → AskedByRun limits files shape at_fault s0 s2 u u
   asked-patterns files1 fault1 end1 fault2 end2 s0 s1 s2 u same ended f only a b = record {
     graph = a.reads;
     patterns = b.reads;
@@ -107,7 +138,7 @@ module _ (limits : Limits) (files : Option Files) (shape : Shape) (at_fault : Ty
     graph_reads = a.input;
     pattern_reads = b.input;
     update_reads = none_read limits.input_bytes;
-    only = only b.reads;
+    only = reads_only shape a.reads b.reads [] (only b.reads);
     patterns_after = inr (a.end ended);
     updates_after = inl refl;
     fault = λ h. inr (inl (
@@ -118,7 +149,7 @@ module _ (limits : Limits) (files : Option Files) (shape : Shape) (at_fault : Ty
 
   -- it read all
   pub asked-all : (files1 : Option Files) (fault1 end1 fault2 end2 fault3 end3 : Type 0) (s0 s1 s2 : List NamedRead) (u0 u1 : List Read) → end1 → end2 → (at_fault → fault3)
-      → ((ps us : List Read) → ReadsOnly shape ps us) → GraphAsked fault1 end1 s0 s1 → PatternsAsked files1 fault2 end2 s1 s2
+      → ((ps us : List Read) → ReadsLater shape ps us) → GraphAsked fault1 end1 s0 s1 → PatternsAsked files1 fault2 end2 s1 s2
       → AskedOfInput limits.input_bytes fault3 end3 (λ n. ⊤) (SourceReads u0 u1) → AskedByRun limits files shape at_fault s0 s2 u0 u1
   asked-all files1 fault1 end1 fault2 end2 fault3 end3 s0 s1 s2 u0 u1 ended1 ended2 f only a b d = record {
     graph = a.reads;
@@ -129,7 +160,7 @@ module _ (limits : Limits) (files : Option Files) (shape : Shape) (at_fault : Ty
     graph_reads = a.input;
     pattern_reads = b.input;
     update_reads = d.input;
-    only = only b.reads d.reads;
+    only = reads_only shape a.reads b.reads d.reads (only b.reads d.reads);
     patterns_after = inr (a.end ended1);
     updates_after = inr (a.end ended1, b.end ended2);
     fault = λ h. inr (inr (d.fault (f h)));

@@ -4,3 +4,4 @@ pub mod AnswersLemmas
 pub mod TopLemmas
 pub mod AskedByRunLemmas
 pub mod CostLemmas
+pub mod NumberLemmas

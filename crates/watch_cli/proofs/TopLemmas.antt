@@ -7,11 +7,11 @@ use Rattle.flux_outside.specs.Told.{Files, AppendsFront}
 use Rattle.flux_model.specs.FileReading.{result_and_then}
 use Rattle.flux_model.specs.Graph.{Graph}
 use Rattle.flux_model.specs.Pattern.{PatternGraph}
-use Rattle.flux_model.specs.Verdict.{Shape, Watch, Match, Save, Verdict, Accepted, Watched, Matched, Saved, Ending, graph_file, pattern_file, ending_with, ends_with, ending_for, blocks_of, written_before}
+use Rattle.flux_model.specs.Verdict.{Shape, Watch, Match, Save, Demo, Verdict, Accepted, Watched, Matched, Saved, Shown, Ending, graph_file, pattern_file, ending_with, ends_with, ending_for, blocks_of, written_before}
 use Rattle.flux_model.specs.Verdict as verdict
 use Rattle.flux_model.specs.declared.limits.Limits.{Limits}
 use Rattle.stream_lines.proofs.CallerLemmas.{whole-nil}
-use Rattle.watch_cli.specs.CommandWords.{ReadsUpdates}
+use Rattle.watch_cli.specs.CommandWords.{ReadsFiles, ReadsUpdates}
 use Rattle.file_reading.specs.FileContents.{FileIs}
 use Rattle.watch_cli.specs.RunEnds.{KnownOrSome, verdict_of, inputs, written_of, EndsAs, EndsBefore, EndsAtFault, RunEndsAs, RunEndsBefore, ReadFails, StatusWhere}
 use Rattle.file_reading.specs.ReadingStops.{StopWhere}
@@ -74,6 +74,11 @@ module _ (made : Graph → List PatternGraph → Accepted) (shape : Shape) (grap
       let p : pattern_file limits (m patterns) ≡ Err v = subst (λ (fs : Option Files). FileIs fs patterns (pattern_file limits) (Err v)) same k in
       are m ∙ ap (λ r. both r (pattern_file limits (m patterns))) h ∙ ap (both (Ok g)) p
 
+-- `demo` has no file
+pub demo-judged : (limits : Limits) (files : Option Files) (number : ℕ) → Judged limits files (Some (Demo number)) (Ok (Shown number))
+demo-judged limits None number = tt
+demo-judged limits (Some m) number = refl
+
 -- ---- what is written by then
 
 ending-is : (limits : Limits) (m : Files) (shape : Shape) (s : List ℕ) (r : Result Accepted Verdict) → inputs limits m (Some shape) ≡ r → ending_for limits m (Some shape) s ≡ ends_with (ending_with limits s) r
@@ -119,12 +124,14 @@ written-nothing : (limits : Limits) (r : Result Accepted Verdict) → written_of
 written-nothing limits (Ok (Watched g qs)) = ap (blocks_of limits g qs) (whole-nil limits.line_bytes)
 written-nothing limits (Ok (Matched g qs)) = refl
 written-nothing limits (Ok (Saved g)) = refl
+written-nothing limits (Ok (Shown number)) = refl
 written-nothing limits (Err v) = refl
 
 -- the shelf's count rose
-pub shelf-fails : (limits : Limits) (files : Option Files) (shape : Shape) (f0 f1 r0 r1 : ℕ) (left put : Option (List ℕ)) → Rose f0 f1 → ReadFails limits files (Some shape) f0 f1 r0 r1 left left put put
-shelf-fails limits files shape f0 f1 r0 r1 left put rose = record {
-  cause = inl rose;
+pub shelf-fails : (limits : Limits) (files : Option Files) (shape : Shape) (f0 f1 r0 r1 : ℕ) (left put : Option (List ℕ)) → ReadsFiles shape → Rose f0 f1
+    → ReadFails limits files (Some shape) f0 f1 r0 r1 left left put put
+shelf-fails limits files shape f0 f1 r0 r1 left put reads rose = record {
+  cause = inl (reads, rose);
   accepted = λ not. absurd (not rose);
   written = by files;
 }
@@ -166,16 +173,16 @@ StatusWhere-map ends ends1 reads reads1 writes writes1 (status.BadGraph line why
 StatusWhere-map ends ends1 reads reads1 writes writes1 (status.BadPatterns line why) e r w so = e (verdict.BadPatterns (record { line = line; code = why })) so
 
 -- a file ends it
-pub file-ends : (limits : Limits) (files : Option Files) (shape : Shape) (f0 f1 f2 r0 r1 : ℕ) (left put : Option (List ℕ)) (refuses : Verdict → Type 0) (writes : Type 0) (file : InputFile) (s : Stop)
+pub file-ends : (limits : Limits) (files : Option Files) (shape : Shape) → ReadsFiles shape → (f0 f1 f2 r0 r1 : ℕ) (left put : Option (List ℕ)) (refuses : Verdict → Type 0) (writes : Type 0) (file : InputFile) (s : Stop)
     → ((v : Verdict) → refuses v → Judged limits files (Some shape) (Err v)) → f0 ≤ f1
     → StopWhere refuses (refusal_of file) (Rose f1 f2) s
     → StatusWhere (RunEndsAs limits files (Some shape) left put put) (ReadFails limits files (Some shape) f0 f2 r0 r1 left left put put) writes (status_of file s)
-file-ends limits files shape f0 f1 f2 r0 r1 left put refuses writes file stop.Memory judged le so = tt
-file-ends limits files shape f0 f1 f2 r0 r1 left put refuses writes file stop.Read judged le so = shelf-fails limits files shape f0 f2 r0 r1 left put (omega arith)
-file-ends limits files shape f0 f1 f2 r0 r1 left put refuses writes file stop.NoFile judged le so = run-stops limits files shape left put verdict.NoFile (judged verdict.NoFile so)
-file-ends limits files shape f0 f1 f2 r0 r1 left put refuses writes file stop.TooMuch judged le so = run-stops limits files shape left put verdict.TooMuch (judged verdict.TooMuch so)
-file-ends limits files shape f0 f1 f2 r0 r1 left put refuses writes input.Graph (stop.Bad bad) judged le so = run-stops limits files shape left put (verdict.BadGraph bad) (judged (verdict.BadGraph bad) so)
-file-ends limits files shape f0 f1 f2 r0 r1 left put refuses writes input.Patterns (stop.Bad bad) judged le so = run-stops limits files shape left put (verdict.BadPatterns bad) (judged (verdict.BadPatterns bad) so)
+file-ends limits files shape reads f0 f1 f2 r0 r1 left put refuses writes file stop.Memory judged le so = tt
+file-ends limits files shape reads f0 f1 f2 r0 r1 left put refuses writes file stop.Read judged le so = shelf-fails limits files shape f0 f2 r0 r1 left put reads (omega arith)
+file-ends limits files shape reads f0 f1 f2 r0 r1 left put refuses writes file stop.NoFile judged le so = run-stops limits files shape left put verdict.NoFile (judged verdict.NoFile so)
+file-ends limits files shape reads f0 f1 f2 r0 r1 left put refuses writes file stop.TooMuch judged le so = run-stops limits files shape left put verdict.TooMuch (judged verdict.TooMuch so)
+file-ends limits files shape reads f0 f1 f2 r0 r1 left put refuses writes input.Graph (stop.Bad bad) judged le so = run-stops limits files shape left put (verdict.BadGraph bad) (judged (verdict.BadGraph bad) so)
+file-ends limits files shape reads f0 f1 f2 r0 r1 left put refuses writes input.Patterns (stop.Bad bad) judged le so = run-stops limits files shape left put (verdict.BadPatterns bad) (judged (verdict.BadPatterns bad) so)
 
 -- following the updates ends it
 pub follow-ends : (limits : Limits) (files : Option Files) (shape : Shape) (f0 f1 r0 r1 w0 w1 : ℕ) (l0 l1 p0 p1 : Option (List ℕ)) (a : Accepted) (s : Status) → Judged limits files (Some shape) (Ok a) → ReadsUpdates shape

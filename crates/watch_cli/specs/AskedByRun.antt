@@ -3,7 +3,7 @@ use Rattle.std.specs.Prelude.{◌≡◌, ◌⊎◌, ℕ, List, [], ◌++◌, Opt
 use Rattle.flux_outside.specs.Told.{Files}
 use Rattle.flux_outside.specs.Reads.{Read, NamedRead, LastOutcome, reads_by_name, SourceReads, InputReads, LastReadFailed}
 use Rattle.flux_outside.specs.declared.read_outcome.ReadOutcome.TheVariants.{Bytes}
-use Rattle.flux_model.specs.Verdict.{Shape, Watch, Match, Save}
+use Rattle.flux_model.specs.Verdict.{Shape, Watch, Match, Save, Demo}
 use Rattle.flux_model.specs.declared.limits.Limits.{Limits}
 use Rattle.file_reading.specs.AskedOfFile.{NoLineRefused, graph_front, pattern_front}
 use Rattle.watch_cli.specs.declared.status.Status.{Status}
@@ -46,26 +46,30 @@ EndsAtFile (Err why) = IsFileStatus why
 
 -- ---- a run
 
+-- `demo` has no file
 abbrev pub graph_name : Shape → List ℕ
 graph_name (Watch graph patterns) = graph
 graph_name (Match graph patterns) = graph
 graph_name (Save graph) = graph
+graph_name (Demo number) = []
 
--- `save` has no pattern file
+-- nor has `save` a pattern file
 abbrev pub patterns_name : Shape → List ℕ
 patterns_name (Watch graph patterns) = patterns
 patterns_name (Match graph patterns) = patterns
 patterns_name (Save graph) = []
+patterns_name (Demo number) = []
 
 -- the reads of the graph file, and then those of the pattern file
 abbrev pub files_asked : Shape → (graph patterns : List Read) → List NamedRead
 files_asked shape graph patterns = reads_by_name (patterns_name shape) patterns ++ reads_by_name (graph_name shape) graph
 
--- a later input is asked only where the run reads it
-abbrev pub ReadsOnly : Shape → (patterns updates : List Read) → Type 0
-ReadsOnly (Watch graph_name patterns_name) patterns updates = ⊤
-ReadsOnly (Match graph_name patterns_name) patterns updates = updates ≡ []
-ReadsOnly (Save graph_name) patterns updates = (patterns ≡ []) × (updates ≡ [])
+-- an input is asked only where the run reads it
+abbrev pub ReadsOnly : Shape → (graph patterns updates : List Read) → Type 0
+ReadsOnly (Watch graph_name patterns_name) graph patterns updates = ⊤
+ReadsOnly (Match graph_name patterns_name) graph patterns updates = updates ≡ []
+ReadsOnly (Save graph_name) graph patterns updates = (patterns ≡ []) × (updates ≡ [])
+ReadsOnly (Demo number) graph patterns updates = (graph ≡ []) × (patterns ≡ []) × (updates ≡ [])
 
 abbrev pub WasReadToItsEnd : List Read → Type 0
 WasReadToItsEnd reads = LastOutcome (Bytes 0) reads
@@ -90,7 +94,7 @@ pub record AskedByRun (limits : Limits) (files : Option Files) (shape : Shape) (
   pub graph_reads : InputReads limits.input_bytes graph
   pub pattern_reads : InputReads limits.input_bytes patterns
   pub update_reads : InputReads limits.input_bytes updates
-  pub only : ReadsOnly shape patterns updates
+  pub only : ReadsOnly shape graph patterns updates
   pub patterns_after : (patterns ≡ []) ⊎ WasReadToItsEnd graph
   pub updates_after : (updates ≡ []) ⊎ (WasReadToItsEnd graph × WasReadToItsEnd patterns)
   pub fault : at_fault → FaultIn limits files shape graph patterns updates

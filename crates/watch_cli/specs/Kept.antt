@@ -1,7 +1,7 @@
 -- What a run hands back.
 use Rattle.std.specs.Prelude.{◌≡◌, ℕ, false, List, Option, Result, Ok, Err, IfSome, MatchOption}
 use Rattle.flux_model.specs.Lines.{lines}
-use Rattle.flux_model.specs.Verdict.{Shape, Verdict, Accepted, Watched, Matched, Saved}
+use Rattle.flux_model.specs.Verdict.{Shape, Verdict, Accepted, Watched, Matched, Saved, Shown}
 use Rattle.flux_model.specs.declared.limits.Limits.{Limits}
 use Rattle.flux_outside.specs.Told.{Files}
 use Rattle.watch_core.specs.Session.{WatchState, first_state, said_by, after_all}
@@ -22,6 +22,7 @@ abbrev pub StandsAfter : Limits → Result Accepted Verdict → List ℕ → Wat
 StandsAfter limits (Ok (Watched g qs)) s now = now ≡ after_bytes limits (first_state limits g qs) s
 StandsAfter limits (Ok (Matched g qs)) s now = ⊥
 StandsAfter limits (Ok (Saved g)) s now = ⊥
+StandsAfter limits (Ok (Shown number)) s now = ⊥
 StandsAfter limits (Err verdict) s now = ⊥
 
 -- the session of the files that the words name, after all lines of the updates

@@ -8,7 +8,7 @@ use Rattle.flux_model.specs.Lines.{lines}
 use Rattle.flux_model.specs.Pattern.{PatternGraph}
 use Rattle.flux_model.specs.Report.{next_graph}
 use Rattle.flux_model.specs.Tree.{QueryTree}
-use Rattle.flux_model.specs.Verdict.{Shape, Verdict, Accepted, Watched, Matched, Saved}
+use Rattle.flux_model.specs.Verdict.{Shape, Verdict, Accepted, Watched, Matched, Saved, Shown}
 use Rattle.flux_model.specs.declared.said.Said.{Said}
 use Rattle.flux_model.specs.declared.graph.Update.{Update}
 use Rattle.flux_model.specs.declared.limits.Limits.{Limits}
@@ -41,6 +41,7 @@ StaysWithin limits (Ok (Watched g patterns)) s old new =
 StaysWithin limits (Ok (Matched g patterns)) s old new =
     MeetNoDeadEnd patterns (trees_over g patterns) → new ≤ old + starts_cost g patterns + no_dead_end_costs g patterns (trees_over g patterns)
 StaysWithin limits (Ok (Saved g)) s old new = ⊤
+StaysWithin limits (Ok (Shown number)) s old new = ⊤
 StaysWithin limits (Err verdict) s old new = ⊤
 
 -- the same where the files are told

@@ -6,7 +6,7 @@ use Rattle.flux_outside.specs.Told.{Files, AppendsFront}
 use Rattle.flux_model.specs.Verdict.{Shape, Verdict, Accepted, Ending, accepted, ending_for, written_before}
 use Rattle.flux_model.specs.Verdict as verdict
 use Rattle.flux_model.specs.declared.limits.Limits.{Limits}
-use Rattle.watch_cli.specs.CommandWords.{ReadsUpdates}
+use Rattle.watch_cli.specs.CommandWords.{ReadsFiles, ReadsUpdates}
 use Rattle.watch_cli.specs.declared.status.Status.{Status}
 use Rattle.watch_cli.specs.declared.status.Status.TheVariants.{Done, Usage, NoFile, BadGraph, BadPatterns, TooMuch}
 use Rattle.watch_cli.specs.declared.status.Status.TheVariants.{ReadFault, WriteFault, Memory}
@@ -33,9 +33,10 @@ abbrev pub inputs : Limits → Files → Option Shape → Result Accepted Verdic
 inputs limits files None = Err verdict.Usage
 inputs limits files (Some shape) = accepted limits files shape
 
--- the count of faults rose of the shelf, or of the updates, where they are read
+-- the count of faults rose of the shelf, where files are read, or of the updates, where they are read
 abbrev pub OneRose : Option Shape → (shelf0 shelf1 read0 read1 : ℕ) → Type 0
-OneRose asked shelf0 shelf1 read0 read1 = MatchOption asked ⊥ (λ shape. Rose shelf0 shelf1 ⊎ (ReadsUpdates shape × Rose read0 read1))
+OneRose asked shelf0 shelf1 read0 read1 =
+    MatchOption asked ⊥ (λ shape. (ReadsFiles shape × Rose shelf0 shelf1) ⊎ (ReadsUpdates shape × Rose read0 read1))
 
 -- a run ends with a verdict, and all that is due by then was written; `ending` says what is due for which bytes of the updates
 abbrev pub EndsAs : Option (List ℕ) → (List ℕ → Ending) → (old new : Option (List ℕ)) → Verdict → Type 0

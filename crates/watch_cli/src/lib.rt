@@ -3,10 +3,11 @@
 //! - `top`: `run`, the one call; `words`: the shapes of the command line; `status`: how a run ends.
 //! - `watch`: the shape `watch GRAPH PATTERNS`; `updates`: its updates, read piece by piece; `report`: the blocks that are
 //!   gathered and put.
-//! - `answers`: the shape `match GRAPH PATTERNS`; `save`: the shape `save GRAPH`.
+//! - `answers`: the shape `match GRAPH PATTERNS`; `save`: the shape `save GRAPH`; `demo`: the shape `demo NUMBER`.
 #![tactic(auto)]
 
 mod answers;
+mod demo;
 #[cfg(test)]
 mod order_tests;
 mod report;

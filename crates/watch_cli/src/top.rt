@@ -16,6 +16,7 @@ ghost use Rattle.watch_cli.specs.Kept.{HasKept};
 ghost use Rattle.watch_cli.specs.RunCosts.{RunStaysWithin};
 
 use crate::answers::list_answers;
+use crate::demo::show_demo;
 use crate::save::save_graph;
 use crate::status::Status;
 use crate::watch::watch_updates;
@@ -94,6 +95,11 @@ fn work<F: Shelf, S: Source, W: Sink, L: Ledger>(
             save_graph(alloc, limits, graph, empty, shelf, out, steps)?;
             Ok(Kept::Nothing)
         }
+        Shape::Demo { number } => {
+            let empty = BlockGraph::with_seed(alloc, &Limits::standard(), shelf.seed());
+            show_demo(alloc, number, empty, out, steps)?;
+            Ok(Kept::Nothing)
+        }
     }
 }
 
@@ -168,10 +174,14 @@ fn tell<E: Sink>(status: Status, err: &mut E)
 /// `watch GRAPH PATTERNS` reads the two files, takes the updates line by line, and writes the block of each line and at last the end
 /// line to `out`. Each input is read in pieces of at most 64 KiB. The blocks of all whole lines of a piece are put before the next read.
 ///
-/// `match GRAPH PATTERNS` reads the two files, and writes all embeddings and how many these are to `out`, in one piece.
+/// `match GRAPH PATTERNS` reads the two files, and writes all embeddings and how many these are to `out`, pattern by pattern and in
+/// pieces of about 64 KiB.
 ///
 /// `save GRAPH` reads the graph file, and writes the one text of its graph to `out`, in one piece. `match` and `save` take nothing of
 /// the updates.
+///
+/// `demo NUMBER` makes the files of the number, watches them under the standard limits, and writes the summary to `out`, in one piece. Of
+/// the shelf it takes the seed alone, and nothing of the updates.
 pub fn run<F: Shelf, S: Source, W: Sink, E: Sink, L: Ledger>(
     alloc: Global,
     words: &[String],

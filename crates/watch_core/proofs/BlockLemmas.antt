@@ -1,19 +1,20 @@
--- The block of an accepted change, from the deltas that a registry gives.
-use Rattle.std.proofs.Common.{◌≡◌, ℕ, List, [], ◌∷◌, ◌++◌, length, Ok, sym, ap, ◌∙◌, subst}
+-- The block of a line, from what a session answers.
+use Rattle.std.proofs.Common.{◌≡◌, ℕ, List, [], ◌∷◌, ◌++◌, length, sym, ap, ◌∙◌, subst}
+use Rattle.std.proofs.lemmas.List.{append-nil}
 use Rattle.std.proofs.lemmas.List.Sorted.{IsPermutation-sym}
-use Rattle.flux_model.specs.Graph.{Graph, IsGraph, apply}
+use Rattle.flux_model.specs.Graph.{Graph, IsGraph}
 use Rattle.flux_model.specs.Pattern.{PatternGraph}
-use Rattle.flux_model.specs.Report.{applied, block, block_of}
+use Rattle.flux_model.specs.Report.{Outcome, block_of, refusal_line, graph_after}
 use Rattle.flux_model.specs.Grown.{GrewByFront}
 use Rattle.flux_model.specs.Deltas.{change_deltas, AreReordered}
+use Rattle.flux_model.specs.declared.code.Code.{Code}
 use Rattle.flux_model.specs.declared.maps.Delta.{Delta}
-use Rattle.flux_model.specs.declared.said.Said.TheVariants.{Says}
-use Rattle.flux_model.specs.declared.graph.Update.{Update}
-use Rattle.flux_model.specs.declared.limits.Limits.{Limits}
 use Rattle.flux_model.proofs.GrownLemmas.{grew_same}
 use Rattle.delta_report.specs.Block.{HavePatterns, deltas_text}
 use Rattle.delta_report.specs.Sorted.{AreSorted}
 use Rattle.delta_report.proofs.CallerLemmas.{deltas_text-change_deltas, change_deltas-have_patterns, change_deltas-sorted, HavePatterns-from_sorted}
+use Rattle.watch_core.specs.Taken.{IsTakenOver}
+use Rattle.watch_core.specs.declared.taken.Taken.TheVariants as taken
 
 -- deltas in order are the sorted form of those that have the same maps
 sorted_form : (ds es : List Delta) → AreReordered ds es → AreSorted ds ds → AreSorted es ds
@@ -28,19 +29,36 @@ sorted_form (d ∷ ds) (e ∷ es) r o = (
   sorted_form ds es r.1 o.1,
 )
 
-module _ (g h : Graph) (qs lent : List PatternGraph) (deltas : List Delta) (was : IsGraph g) (is : IsGraph h) (same : lent ≡ qs) (of : AreReordered (change_deltas 0 g h qs) deltas) where
-  sorted : AreSorted deltas (change_deltas 0 g h qs)
-  sorted = sorted_form (change_deltas 0 g h qs) deltas of (change_deltas-sorted 0 g h qs was.ascending_vertices is.ascending_vertices)
+-- ---- a line that says nothing, and one that is refused
 
-  pub change-patterns : HavePatterns (length lent) deltas
-  change-patterns = subst (λ (rs : List PatternGraph). HavePatterns (length rs) deltas) (sym same) (HavePatterns-from_sorted (length qs) deltas (change_deltas 0 g h qs) sorted (change_deltas-have_patterns g h qs))
+module _ (g : Graph) (came_to : Outcome) (k : ℕ) (patterns : List PatternGraph) where
+  pub ignored-text : IsTakenOver patterns g came_to taken.Ignored → (old : List ℕ) → old ≡ old ++ block_of k patterns g came_to
+  ignored-text over old = sym (ap (λ o. old ++ block_of k patterns g o) over.taken ∙ append-nil old)
 
-  module _ (limits : Limits) (k : ℕ) (update : Update) (made : apply limits g update ≡ Ok h) where
-    text : deltas_text k lent (change_deltas 0 g h qs) ≡ block limits k qs g (Says update)
-    text = ap (λ (rs : List PatternGraph). deltas_text k rs (change_deltas 0 g h qs)) same ∙ deltas_text-change_deltas k g h qs ∙ sym (ap (λ r. block_of k qs g (applied r)) made)
+  pub refused-text : (reason : Code) → IsTakenOver patterns g came_to (taken.Refused reason) → refusal_line k reason ≡ block_of k patterns g came_to
+  refused-text reason over = ap (block_of k patterns g) (sym over.taken)
 
-    pub change-text : (old new : List ℕ) → ((sorted : List Delta) → AreSorted deltas sorted → new ≡ old ++ deltas_text k lent sorted) → new ≡ old ++ block limits k qs g (Says update)
-    change-text old new written = written (change_deltas 0 g h qs) sorted ∙ ap (λ t. old ++ t) text
+-- ---- an accepted change
 
-    pub change-front : (old new : List ℕ) → ((sorted : List Delta) → AreSorted deltas sorted → GrewByFront old new (deltas_text k lent sorted)) → GrewByFront old new (block limits k qs g (Says update))
-    change-front old new written = grew_same _ _ _ _ (sym text) (written (change_deltas 0 g h qs) sorted)
+module _ (g : Graph) (came_to : Outcome) (patterns : List PatternGraph) (deltas : List Delta) (over : IsTakenOver patterns g came_to (taken.Changed deltas)) where
+  abbrev h : Graph
+  h = over.taken.0
+
+  is : IsGraph h
+  is = subst (λ o. IsGraph (graph_after g o)) over.taken.1 over.after
+
+  sorted : AreSorted deltas (change_deltas 0 g h patterns)
+  sorted = sorted_form (change_deltas 0 g h patterns) deltas over.taken.2 (change_deltas-sorted 0 g h patterns over.before.ascending_vertices is.ascending_vertices)
+
+  pub changed-patterns : HavePatterns (length patterns) deltas
+  changed-patterns = HavePatterns-from_sorted (length patterns) deltas (change_deltas 0 g h patterns) sorted (change_deltas-have_patterns g h patterns)
+
+  module _ (k : ℕ) where
+    text : deltas_text k patterns (change_deltas 0 g h patterns) ≡ block_of k patterns g came_to
+    text = deltas_text-change_deltas k g h patterns ∙ sym (ap (block_of k patterns g) over.taken.1)
+
+    pub changed-text : (old new : List ℕ) → ((sorted : List Delta) → AreSorted deltas sorted → new ≡ old ++ deltas_text k patterns sorted) → new ≡ old ++ block_of k patterns g came_to
+    changed-text old new written = written (change_deltas 0 g h patterns) sorted ∙ ap (λ t. old ++ t) text
+
+    pub changed-front : (old new : List ℕ) → ((sorted : List Delta) → AreSorted deltas sorted → GrewByFront old new (deltas_text k patterns sorted)) → GrewByFront old new (block_of k patterns g came_to)
+    changed-front old new written = grew_same _ _ _ _ (sym text) (written (change_deltas 0 g h patterns) sorted)

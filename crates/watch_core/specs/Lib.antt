@@ -1,5 +1,5 @@
 pub mod Codes
-pub mod LineAnswers
 pub mod Repeated
 pub mod Session
 pub mod SessionStates
+pub mod Taken

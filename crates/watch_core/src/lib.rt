@@ -2,12 +2,15 @@
 //!
 //! - `graph_line`: a line of a graph file.
 //! - `session`: `Session`, which takes the lines of the updates.
+//! - `taken`: `Taken`, what a line of the updates came to.
 #![tactic(auto)]
 
 mod graph_line;
 mod session;
+mod taken;
 #[cfg(test)]
 mod tests;
 
 pub use graph_line::take_graph_line;
 pub use session::Session;
+pub use taken::Taken;

@@ -5,28 +5,20 @@ ghost use Rattle.flux_model.specs.Costs.{line_cost, start_cost};
 ghost use Rattle.flux_model.specs.Grown.{GrewByFront};
 ghost use Rattle.flux_model.specs.LentLine.{seen_line};
 ghost use Rattle.flux_model.specs.Reading.{update_reading};
-ghost use Rattle.flux_model.specs.Report.{outcome, graph_after, is_accepted, block};
-ghost use Rattle.flux_model.specs.declared.said.Said.TheVariants.{Says};
+ghost use Rattle.flux_model.specs.Report.{outcome, graph_after, is_accepted};
 ghost use Rattle.pattern_registry.specs.States.{AreExact, trees_over};
-ghost use Rattle.watch_core.specs.LineAnswers.{answer_of};
 ghost use Rattle.watch_core.specs.Session.{first_state, after_said, next_block, end_text};
 ghost use Rattle.watch_core.specs.SessionStates.{watched};
+ghost use Rattle.watch_core.specs.Taken.{IsTaken};
 
-use delta_report::{write_deltas, write_end, write_refusal};
+use crate::taken::{Taken, write_block};
+use delta_report::write_end;
 use flux_model::{Ledger, Line, Patterns, Said, Steps, Update};
 use graph_traits::{HoldGraph, KeepGraph, ReadGraph};
 use line_grammar::read_update_line;
 use pattern_registry::Registry;
 use std::alloc::{AllocError, Global};
 use std::marker::Model;
-
-/// What a line came to.
-#[derive(Clone, Copy)]
-enum Answer {
-    Ignored,
-    Accepted,
-    Refused,
-}
 
 /// A graph, the patterns with their index over it, and how many lines there were.
 ///
@@ -115,26 +107,54 @@ impl<G: KeepGraph> Session<G> {
         ensures steps { let s = self.old in let indexed = zip s.registry.patterns s.registry.trees in
             OnOk result (steps.new ≤ steps.old + line_cost s.limits indexed s.graph (update_reading (seen_line line.now))) }
     {
+        // For the proof: what a store holds is a graph.
+        let _before = self.graph.vertex_count();
+        let taken = self.take(line, steps)?;
+        let _after = self.graph.vertex_count();
+        let written = write_block(self.lines, self.registry.patterns(), taken, report);
+        self.is_broken = written.is_err();
+        written
+    }
+
+    /// Takes a line of the updates as `line` does, and hands back what it came to in the place of its block. The session must
+    /// not be broken.
+    ///
+    /// A line that is refused, and one that says nothing, change neither the graph nor what is kept of the patterns. At
+    /// `AllocError` the session is broken.
+    pub fn take<L: Ledger>(
+        &mut self,
+        line: &Line<'_>,
+        steps: &mut Steps<L>,
+    ) -> Result<Taken, AllocError>
+    where
+        G: ReadGraph<L>,
+        requires whole { self.old.is_broken ≡ false }
+        requires few { self.old.lines < 2 ^ 60 }
+        ensures after { OnOk result (watched self.new ≡ after_said (watched self.old) (update_reading (seen_line line.now))) }
+        ensures trees { OnOk result (self.new.registry.trees ≡ self.old.registry.trees) }
+        ensures unchanged { let came_to = outcome self.old.limits self.old.graph (update_reading (seen_line line.now)) in
+            OnOk result (is_accepted came_to ≡ false → self.new.registry ≡ self.old.registry) }
+        ensures same_graph { let came_to = outcome self.old.limits self.old.graph (update_reading (seen_line line.now)) in
+            OnOk result (is_accepted came_to ≡ false → self.new.graph ≡ self.old.graph) }
+        ensures whole { OnOk result (self.new.is_broken ≡ false) }
+        ensures broken { OnErr result (self.new.is_broken ≡ true) }
+        ensures taken { let s = self.old in let came_to = outcome s.limits s.graph (update_reading (seen_line line.now)) in
+            IfOk result (λ taken. IsTaken s.registry.patterns s.graph came_to taken) }
+        ensures steps { let s = self.old in let indexed = zip s.registry.patterns s.registry.trees in
+            OnOk result (steps.new ≤ steps.old + line_cost s.limits indexed s.graph (update_reading (seen_line line.now))) }
+    {
         // Until the line is dealt with.
         self.is_broken = true;
         let said = read_update_line(self.alloc, line)?;
-        let number = self.lines + 1;
-        let answer = take_said(
-            number,
-            &mut self.graph,
-            &mut self.registry,
-            said,
-            report,
-            steps,
-        )?;
-        self.lines = number;
-        match answer {
-            Answer::Ignored => {}
-            Answer::Accepted => self.accepted += 1,
-            Answer::Refused => self.refused += 1,
+        let taken = take_said(&mut self.graph, &mut self.registry, said, steps)?;
+        self.lines += 1;
+        match &taken {
+            Taken::Ignored => {}
+            Taken::Refused(_) => self.refused += 1,
+            Taken::Changed(_) => self.accepted += 1,
         }
         self.is_broken = false;
-        Ok(())
+        Ok(taken)
     }
 
     /// Writes the end line. At `AllocError` a front part of it is written.
@@ -176,17 +196,16 @@ impl<G: KeepGraph> Session<G> {
     }
 }
 
-/// Deals with what the line of this number says, and writes its block.
+/// Deals with what a line says.
 fn take_said<G: KeepGraph + ReadGraph<L>, L: Ledger>(
-    number: u64,
     graph: &mut G,
     registry: &mut Registry,
     said: Said<Update>,
-    report: &mut Vec<u8>,
     steps: &mut Steps<L>,
-) -> Result<Answer, AllocError>
+) -> Result<Taken, AllocError>
     requires { AreExact registry.old (G.graph graph.old) }
-    ensures answer { IfOk result (λ answer. answer ≡ answer_of (outcome (G.limits graph.old) (G.graph graph.old) said)) }
+    ensures taken { let came_to = outcome (G.limits graph.old) (G.graph graph.old) said in
+        IfOk result (λ taken. IsTaken registry.old.patterns (G.graph graph.old) came_to taken) }
     ensures graph { let came_to = outcome (G.limits graph.old) (G.graph graph.old) said in
         OnOk result (G.graph graph.new ≡ graph_after (G.graph graph.old) came_to) }
     ensures limits { G.limits graph.new ≡ G.limits graph.old }
@@ -195,57 +214,16 @@ fn take_said<G: KeepGraph + ReadGraph<L>, L: Ledger>(
     ensures trees { OnOk result (registry.new.trees ≡ registry.old.trees) }
     ensures unchanged { let came_to = outcome (G.limits graph.old) (G.graph graph.old) said in
         OnOk result (is_accepted came_to ≡ false → registry.new ≡ registry.old) }
-    ensures ok { let text = block (G.limits graph.old) number registry.old.patterns (G.graph graph.old) said in
-        OnOk result (report.new.items ≡ report.old.items ++ text) }
-    ensures err { let text = block (G.limits graph.old) number registry.old.patterns (G.graph graph.old) said in
-        OnErr result (GrewByFront report.old.items report.new.items text) }
     ensures steps { let indexed = zip registry.old.patterns registry.old.trees in
         OnOk result (steps.new ≤ steps.old + line_cost (G.limits graph.old) indexed (G.graph graph.old) said) }
 {
-    match said {
-        Said::Nothing => Ok(Answer::Ignored),
-        Said::Refused(code) => {
-            write_refusal(number, code, report)?;
-            Ok(Answer::Refused)
-        }
-        Said::Says(update) => change(number, graph, registry, &update, report, steps),
-    }
-}
-
-/// Changes the graph, and writes what each pattern gained and lost; or writes why it is refused.
-fn change<G: KeepGraph + ReadGraph<L>, L: Ledger>(
-    number: u64,
-    graph: &mut G,
-    registry: &mut Registry,
-    update: &Update,
-    report: &mut Vec<u8>,
-    steps: &mut Steps<L>,
-) -> Result<Answer, AllocError>
-    requires { AreExact registry.old (G.graph graph.old) }
-    ensures answer { let came_to = outcome (G.limits graph.old) (G.graph graph.old) (Says update.now) in
-        IfOk result (λ answer. answer ≡ answer_of came_to) }
-    ensures graph { let came_to = outcome (G.limits graph.old) (G.graph graph.old) (Says update.now) in
-        OnOk result (G.graph graph.new ≡ graph_after (G.graph graph.old) came_to) }
-    ensures limits { G.limits graph.new ≡ G.limits graph.old }
-    ensures exact { OnOk result (AreExact registry.new (G.graph graph.new)) }
-    ensures patterns { OnOk result (registry.new.patterns ≡ registry.old.patterns) }
-    ensures trees { OnOk result (registry.new.trees ≡ registry.old.trees) }
-    ensures unchanged { let came_to = outcome (G.limits graph.old) (G.graph graph.old) (Says update.now) in
-        OnOk result (is_accepted came_to ≡ false → registry.new ≡ registry.old) }
-    ensures ok { let text = block (G.limits graph.old) number registry.old.patterns (G.graph graph.old) (Says update.now) in
-        OnOk result (report.new.items ≡ report.old.items ++ text) }
-    ensures err { let text = block (G.limits graph.old) number registry.old.patterns (G.graph graph.old) (Says update.now) in
-        OnErr result (GrewByFront report.old.items report.new.items text) }
-    ensures steps { let indexed = zip registry.old.patterns registry.old.trees in
-        OnOk result (steps.new ≤ steps.old + line_cost (G.limits graph.old) indexed (G.graph graph.old) (Says update.now)) }
-{
-    let mut deltas = match registry.apply(graph, update, steps)? {
-        Ok(deltas) => deltas,
-        Err(code) => {
-            write_refusal(number, code, report)?;
-            return Ok(Answer::Refused);
-        }
+    let update = match said {
+        Said::Nothing => return Ok(Taken::Ignored),
+        Said::Refused(code) => return Ok(Taken::Refused(code)),
+        Said::Says(update) => update,
     };
-    write_deltas(number, registry.patterns(), &mut deltas, report)?;
-    Ok(Answer::Accepted)
+    match registry.apply(graph, &update, steps)? {
+        Ok(deltas) => Ok(Taken::Changed(deltas)),
+        Err(code) => Ok(Taken::Refused(code)),
+    }
 }

@@ -18,7 +18,7 @@ returns-in-Err-clause-front g c =
 
 pub returns-in-Err-clause-status : goal.returns-in-Err-clause-status
 returns-in-Err-clause-status g c =
-    rw c.of.ensures.status (λ left read. file-ends c.args.limits.now (g.F.Shelf.files c.args.shelf.now) (Save c.args.name.now)
+    rw c.of.ensures.status (λ left read. file-ends c.args.limits.now (g.F.Shelf.files c.args.shelf.now) (Save c.args.name.now) tt
     (g.F.Shelf.faults c.args.shelf.now) (g.F.Shelf.faults c.args.shelf.now) (g.F.Shelf.faults c.read_store.new.shelf)
     read read left (g.W.Sink.taken c.args.out.now)
     (λ v. FileIs (g.F.Shelf.files c.args.shelf.now) c.args.name.now (graph_file c.args.limits.now) (Err v))

@@ -19,7 +19,7 @@ returns-in-Err-clause-front g c =
 pub returns-in-Err-clause-status : goal.returns-in-Err-clause-status
 returns-in-Err-clause-status g c =
     let shape : Shape = Watch c.args.graph_name.now c.args.patterns_name.now in
-    rw c.of.ensures.status (file-ends c.args.limits.now (g.F.Shelf.files c.args.shelf.now) shape
+    rw c.of.ensures.status (file-ends c.args.limits.now (g.F.Shelf.files c.args.shelf.now) shape tt
     (g.F.Shelf.faults c.args.shelf.now) (g.F.Shelf.faults c.args.shelf.now) (g.F.Shelf.faults c.read_store.new.shelf)
     (g.S.Source.faults c.args.updates.now) (g.S.Source.faults c.args.updates.now) (g.S.Source.left c.args.updates.now) (g.W.Sink.taken c.args.out.now)
     (λ v. FileIs (g.F.Shelf.files c.args.shelf.now) c.args.graph_name.now (graph_file c.args.limits.now) (Err v))
@@ -34,7 +34,7 @@ returns-in-Err-read_patterns-clause-front g c =
 pub returns-in-Err-read_patterns-clause-status : goal.returns-in-Err-read_patterns-clause-status
 returns-in-Err-read_patterns-clause-status g c =
     let shape : Shape = Watch c.args.graph_name.now c.args.patterns_name.now in
-    rw c.of-in-Err-read_patterns.ensures.status (file-ends c.args.limits.now (g.F.Shelf.files c.args.shelf.now) shape
+    rw c.of-in-Err-read_patterns.ensures.status (file-ends c.args.limits.now (g.F.Shelf.files c.args.shelf.now) shape tt
     (g.F.Shelf.faults c.args.shelf.now) (g.F.Shelf.faults c.read_store.new.shelf) (g.F.Shelf.faults c.read_patterns.new.shelf)
     (g.S.Source.faults c.args.updates.now) (g.S.Source.faults c.args.updates.now) (g.S.Source.left c.args.updates.now) (g.W.Sink.taken c.args.out.now)
     (λ v. FileIs (g.F.Shelf.files c.read_store.new.shelf) c.args.patterns_name.now (pattern_file c.args.limits.now) (Err v))

@@ -1,8 +1,0 @@
-use Rattle.std.proofs.Common.{◌≡◌, ◌++◌, ◌∷◌, [], take}
-use Rattle.std.specs.List.{flat_map}
-use Rattle.flux_model.specs.Report.{map_line}
-use Rattle.delta_report.proofs.block.write_maps.Given as goal
-
--- the lines so far
-abbrev pub invariant-loop-i : goal.invariant-loop-i
-invariant-loop-i l = l.out.items ≡ l.fn.out.items ++ flat_map (map_line (l.sign ∷ []) l.number l.name) (take l.i l.maps)
