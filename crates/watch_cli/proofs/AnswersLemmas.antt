@@ -1,6 +1,5 @@
 -- What was put of the answers, and what waits in the report.
 use Rattle.std.proofs.Common.{◌≡◌, ℕ, ◌+◌, ◌≤◌, List, [], ◌∷◌, ◌++◌, length, take, drop, Option, Some, refl, sym, ap, ◌∙◌, subst, append_assoc, append-nil, arith, IsTrue}
-use Rattle.std.specs.Io.KnownBytes.{Appends}
 use Rattle.std.specs.List.{flat_map, slice_get}
 use Rattle.std.specs.Prelude.{IsPermutation, IsSorted}
 use Rattle.std.specs.Ordering.{nat_cmp}

@@ -1,15 +1,15 @@
-use Rattle.std.proofs.Common.{◌≡◌, ◌++◌, ◌<◌, List, [], length, take, ap, subst, arith}
+use Rattle.std.proofs.Common.{length, take, ap, subst, arith}
 use Rattle.std.specs.List.{flat_map}
 use Rattle.std.specs.Io.KnownBytes.{Appends}
 use Rattle.std.proofs.lemmas.Result.{err_from_is_err_and, on_ok_weaker, on_err_weaker}
 use Rattle.flux_outside.specs.Told.{AppendsFront}
 use Rattle.flux_outside.proofs.ReadsLemmas.{NoEmptyPut-trans}
-use Rattle.flux_model.specs.Report.{answer_lines, match_text}
+use Rattle.flux_model.specs.Report.{answer_lines}
 use Rattle.delta_report.specs.Answers.{total_line}
 use Rattle.pattern_registry.proofs.AnswerLemmas.{at_place}
 use Rattle.pattern_registry.proofs.CostLemmas.{no_dead_end_costs-next}
 use Rattle.watch_cli.proofs.ReportLemmas.{ended_by, ended_short}
-use Rattle.watch_cli.proofs.AnswersLemmas.{Wrote-none, Wrote-next, count_next, text_whole, text_stops}
+use Rattle.watch_cli.proofs.AnswersLemmas.{Wrote-next, count_next, text_whole, text_stops}
 use Rattle.watch_cli.proofs.answers.put_all.Goals as goal
 
 pub loop-k-preserved : goal.loop-k-preserved

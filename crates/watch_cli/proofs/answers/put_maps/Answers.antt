@@ -1,8 +1,8 @@
 use Rattle.std.proofs.Common.{arith}
 use Rattle.std.proofs.lemmas.Result.{err_from_is_err_and}
-use Rattle.flux_outside.proofs.ReadsLemmas.{NoEmptyPut-none, NoEmptyPut-trans}
+use Rattle.flux_outside.proofs.ReadsLemmas.{NoEmptyPut-trans}
 use Rattle.delta_report.specs.Answers.{answer_line}
-use Rattle.watch_cli.proofs.AnswersLemmas.{Wrote-none, Wrote-next, Wrote-stops, Wrote-each}
+use Rattle.watch_cli.proofs.AnswersLemmas.{Wrote-next, Wrote-stops, Wrote-each}
 use Rattle.watch_cli.proofs.answers.put_maps.Goals as goal
 
 pub loop-i-preserved : goal.loop-i-preserved

@@ -1,12 +1,8 @@
-use Rattle.std.proofs.Common.{◌≡◌, ◌∙◌, ◌++◌, List, ap, sym, subst, length, Some, arith}
-use Rattle.std.specs.Prelude.{flat_map}
+use Rattle.std.proofs.Common.{◌∙◌, ◌++◌, ap, sym, subst, length}
 use Rattle.std.specs.List.{slice_get}
 use Rattle.std.proofs.lemmas.Result.{err_from_is_err_and}
 use Rattle.flux_outside.specs.Told.{AppendsFront}
-use Rattle.flux_outside.proofs.ReadsLemmas.{NoEmptyPut-trans}
-use Rattle.flux_model.specs.Pattern.{PatternGraph}
 use Rattle.flux_model.specs.Report.{answer_lines}
-use Rattle.delta_report.specs.Answers.{answer_line}
 use Rattle.watch_cli.specs.ReportProgress.{Wrote}
 use Rattle.watch_cli.proofs.ReportLemmas.{AppendsFront-longer, put_either}
 use Rattle.watch_cli.proofs.AnswersLemmas.{lines_named}

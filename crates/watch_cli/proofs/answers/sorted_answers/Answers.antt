@@ -1,5 +1,3 @@
-use Rattle.std.proofs.lemmas.Result.{on_ok_weaker}
-use Rattle.flux_model.proofs.GrownLemmas.{on_ok}
 use Rattle.watch_cli.proofs.AnswersLemmas.{in_order}
 use Rattle.watch_cli.proofs.answers.sorted_answers.Goals as goal
 
