@@ -1,5 +1,5 @@
 //! Lines of a graph file and what they make of a store, lines of the updates and what they come to, worked out by hand.
-ghost use Rattle.std.specs.Prelude.{◌≡◌, codes, length, IfOk};
+ghost use Rattle.std.specs.Prelude.{◌≡◌, codes, IfOk};
 
 use crate::{Session, Taken, take_graph_line};
 use flux_model::{
