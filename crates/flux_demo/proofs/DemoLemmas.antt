@@ -1,5 +1,5 @@
 -- The summary of a run over the files of a number.
-use Rattle.std.proofs.Common.{◌≡◌, ℕ, ◌+◌, ◌<◌, ◌≤◌, ◌^◌, List, [], ◌∷◌, ◌++◌, length, map, Result, Ok, Err, IfOk, Some, refl, sym, ap, subst, ◌∙◌, arith, count_by, Contains, IsTrue}
+use Rattle.std.proofs.Common.{◌≡◌, ℕ, ◌+◌, ◌<◌, ◌≤◌, ◌^◌, List, [], ◌∷◌, ◌++◌, length, map, Result, Ok, Err, IfOk, Some, refl, sym, ap, subst, ◌∙◌, arith, Contains, IsTrue}
 use Rattle.std.proofs.lemmas.List.{length-map}
 use Rattle.std.proofs.lemmas.Option.{slice_get_within, get_or_from_slice_get}
 use Rattle.std.specs.Prelude.{codes}
@@ -12,7 +12,7 @@ use Rattle.flux_model.specs.Reading.{update_reading}
 use Rattle.flux_model.specs.Graph.{Graph}
 use Rattle.flux_model.specs.GraphText.{text_line}
 use Rattle.flux_model.specs.Pattern.{PatternGraph, HaveDistinctNames}
-use Rattle.flux_model.specs.Report.{blocks, outcomes, is_accepted, is_refused, end_line, end_line_of}
+use Rattle.flux_model.specs.Report.{blocks, outcomes, end_line, end_line_of}
 use Rattle.flux_model.proofs.ReportLemmas.{length-outcomes}
 use Rattle.flux_model.specs.Demo.{counts_line, summary, demo_text}
 use Rattle.flux_model.specs.Generated.{Files, generated}

@@ -1,5 +1,5 @@
 -- The lines of the updates, counted one by one.
-use Rattle.std.proofs.Common.{◌≡◌, ℕ, suc, ◌+◌, ◌*◌, ◌<◌, ◌≤◌, Bool, true, false, cond, List, [], ◌∷◌, ◌++◌, length, take, drop, replicate, get_or, Some, refl, sym, ap, subst, ◌∙◌, arith, count_by, append-nil}
+use Rattle.std.proofs.Common.{◌≡◌, ℕ, ◌<◌, cond, List, [], ◌∷◌, ◌++◌, length, take, drop, replicate, get_or, Some, refl, sym, ap, subst, ◌∙◌, arith}
 use Rattle.std.proofs.lemmas.List.{get_or-replicate}
 use Rattle.std.proofs.lemmas.List.Sums.{sum_by-cons}
 use Rattle.std.proofs.lemmas.Grind.{common_steps}
@@ -9,21 +9,21 @@ use Rattle.flux_model.specs.Lines.{InputLine, held, whole, rest, last_line, line
 use Rattle.flux_model.specs.Reading.{update_reading}
 use Rattle.flux_model.specs.Graph.{Graph}
 use Rattle.flux_model.specs.Pattern.{PatternGraph}
-use Rattle.flux_model.specs.Report.{Outcome, Ignored, Rejected, Changed, outcome, outcomes, next_graph, is_accepted, is_refused}
+use Rattle.flux_model.specs.Report.{Outcome, outcome, outcomes, next_graph, is_accepted, is_refused}
 use Rattle.flux_model.specs.declared.limits.Limits.{Limits}
 use Rattle.flux_model.specs.declared.said.Said.{Said}
 use Rattle.flux_model.specs.declared.graph.Update.{Update}
-use Rattle.flux_gen.specs.Law.{gained_by, lost_by, gained_in, lost_in}
+use Rattle.flux_gen.specs.Law.{gained_by, lost_by}
 use Rattle.stream_lines.specs.Waiting.{Waiting}
 use Rattle.stream_lines.specs.Follows.{Follows, rest_line}
 use Rattle.stream_lines.proofs.CallerLemmas.{rest-nil}
 use Rattle.stream_lines.proofs.KeptLemmas.{rest_line-rest_of}
-use Rattle.watch_core.specs.Session.{WatchState, said_by, after_said}
+use Rattle.watch_core.specs.Session.{WatchState, after_said}
 use Rattle.watch_core.specs.SessionStates.{SessionState, watched}
 use Rattle.watch_core.specs.Taken.{IsTaken}
 use Rattle.watch_core.specs.declared.taken.Taken.{Taken}
 use Rattle.watch_core.specs.declared.taken.Taken.TheVariants as taken
-use Rattle.flux_demo.specs.Tally.{TallyState, no_tally, gains, losses, accepted_by, refused_by, GrownBy, IsNext}
+use Rattle.flux_demo.specs.Tally.{TallyState, no_tally, gains, losses, accepted_by, refused_by, IsNext}
 use Rattle.flux_demo.specs.Progress.{Counting}
 use Rattle.flux_demo.specs.Summary.{IsTallyOf}
 use Rattle.flux_demo.proofs.DeltaLemmas.{found-at}

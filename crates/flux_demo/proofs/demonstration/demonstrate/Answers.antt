@@ -1,7 +1,6 @@
 use Rattle.std.proofs.Common.{◌≡◌, ◌≤◌, ◌∙◌, ℕ, List, [], ◌∷◌, length, sym, ap, subst}
 use Rattle.flux_model.specs.Limits.{standard}
 use Rattle.flux_model.specs.Generated.{Files, generated}
-use Rattle.flux_model.specs.Pattern.{PatternGraph}
 use Rattle.flux_gen.specs.Law.{generated_graph, star, walk, fork, ring}
 use Rattle.flux_gen.specs.declared.files.Sizes.{Sizes}
 use Rattle.pattern_registry.specs.States.{PatternStates}
