@@ -117,10 +117,10 @@ module _ (number vertices triples : ℕ) (t : TallyState) (out : List ℕ) where
       let graph = generated_graph number 20000 60000 in
       let saids = said_by (lines standard.line_bytes (demo_files number).updates) in
       let counted : IsTallyOf standard demo_patterns graph saids t =
-          subst (λ (u : List ℕ). IsTallyOf standard demo_patterns graph (said_by (lines standard.line_bytes u)) t) same_updates
-          (subst (λ (qs : List PatternGraph). IsTallyOf standard qs graph (said_by (lines standard.line_bytes updates)) t) same_patterns
-          (subst (λ (h : Graph). IsTallyOf standard patterns h (said_by (lines standard.line_bytes updates)) t) same_graph
-          (subst (λ (l : Limits). IsTallyOf l patterns g (said_by (lines standard.line_bytes updates)) t) under of))) in
+      subst (λ (u : List ℕ). IsTallyOf standard demo_patterns graph (said_by (lines standard.line_bytes u)) t) same_updates
+      (subst (λ (qs : List PatternGraph). IsTallyOf standard qs graph (said_by (lines standard.line_bytes updates)) t) same_patterns
+      (subst (λ (h : Graph). IsTallyOf standard patterns h (said_by (lines standard.line_bytes updates)) t) same_graph
+      (subst (λ (l : Limits). IsTallyOf l patterns g (said_by (lines standard.line_bytes updates)) t) under of))) in
       let few : 1 + length saids < 10 ^ 64 = omega (arith, line_count number, length-map (lines standard.line_bytes (demo_files number).updates) update_reading) in
       summary-is graph demo_patterns saids (a ∙ ap (λ (h : Graph). length h.vertices) same_graph) (b ∙ ap (λ (h : Graph). length h.triples) same_graph) counted refl refl few
       (subst Written same_patterns written)

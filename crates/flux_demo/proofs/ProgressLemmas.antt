@@ -113,10 +113,10 @@ pub counted-line : (limits : Limits) (patterns : List PatternGraph) (first : Gra
 counted-line limits patterns first all left x s r came_to t u under same after is next before =
     let said : Said Update = update_reading x in
     let so : IsTaken patterns s.graph (outcome limits s.graph said) came_to =
-        subst (λ (l : Limits). IsTaken patterns s.graph (outcome l s.graph said) came_to) under
-        (subst (λ (qs : List PatternGraph). IsTaken qs s.graph (outcome s.limits s.graph said) came_to) same is) in
+    subst (λ (l : Limits). IsTaken patterns s.graph (outcome l s.graph said) came_to) under
+    (subst (λ (qs : List PatternGraph). IsTaken qs s.graph (outcome s.limits s.graph said) came_to) same is) in
     let graph : r.graph ≡ next_graph limits s.graph said =
-        ap (λ (w : WatchState). w.graph) after ∙ ap (λ (l : Limits). next_graph l s.graph said) under in
+    ap (λ (w : WatchState). w.graph) after ∙ ap (λ (l : Limits). next_graph l s.graph said) under in
     subst (λ (g : Graph). Counting limits patterns first g all left u) (sym graph) (Counting-turn limits patterns first all s.graph said left came_to t u before so next)
 
 -- ---- the lines that wait
@@ -133,9 +133,9 @@ left_of-first n piece old new empty same pushed =
     let is : rest old.line_bytes [] ≡ old.rest = ap (λ m. rest m []) size ∙ rest-nil n ∙ sym (ap (λ (w : Waiting). w.rest) empty) in
     let follows = pushed [] is in
     let queue : new.queue ≡ whole n piece =
-        follows.queue ∙ ap (λ (w : Waiting). w.queue ++ follows.more) empty ∙ sym follows.lines ∙ ap (λ m. whole m piece) size in
+    follows.queue ∙ ap (λ (w : Waiting). w.queue ++ follows.more) empty ∙ sym follows.lines ∙ ap (λ m. whole m piece) size in
     let left : rest_line new.line_bytes new.rest ≡ last_line n (open_end piece) =
-        ap (λ m. rest_line m new.rest) (same ∙ size) ∙ ap (rest_line n) (follows.rest ∙ ap (λ m. rest m piece) size) ∙ rest_line-rest_of n (open_end piece) in
+    ap (λ m. rest_line m new.rest) (same ∙ size) ∙ ap (rest_line n) (follows.rest ∙ ap (λ m. rest m piece) size) ∙ rest_line-rest_of n (open_end piece) in
     λ i. queue i ++ left i
 
 -- the first line that waits, and the others
