@@ -1,5 +1,5 @@
 -- The summary of a run over the files of a number.
-use Rattle.std.proofs.Common.{◌≡◌, ℕ, ◌+◌, ◌<◌, ◌≤◌, ◌^◌, List, [], ◌∷◌, ◌++◌, length, map, Result, Ok, Err, IfOk, Some, refl, sym, ap, subst, ◌∙◌, arith, count_by, Contains, IsTrue}
+use Rattle.std.proofs.Common.{◌≡◌, ℕ, ◌+◌, ◌<◌, ◌≤◌, ◌^◌, List, [], ◌∷◌, ◌++◌, length, map, Result, Ok, Err, IfOk, Some, refl, sym, ap, subst, ◌∙◌, arith, Contains, IsTrue}
 use Rattle.std.proofs.lemmas.List.{length-map}
 use Rattle.std.proofs.lemmas.Option.{slice_get_within, get_or_from_slice_get}
 use Rattle.std.specs.Prelude.{codes}
@@ -12,7 +12,7 @@ use Rattle.flux_model.specs.Reading.{update_reading}
 use Rattle.flux_model.specs.Graph.{Graph}
 use Rattle.flux_model.specs.GraphText.{text_line}
 use Rattle.flux_model.specs.Pattern.{PatternGraph, HaveDistinctNames}
-use Rattle.flux_model.specs.Report.{blocks, outcomes, is_accepted, is_refused, end_line, end_line_of}
+use Rattle.flux_model.specs.Report.{blocks, outcomes, end_line, end_line_of}
 use Rattle.flux_model.proofs.ReportLemmas.{length-outcomes}
 use Rattle.flux_model.specs.Demo.{counts_line, summary, demo_text}
 use Rattle.flux_model.specs.Generated.{Files, generated}
@@ -117,10 +117,10 @@ module _ (number vertices triples : ℕ) (t : TallyState) (out : List ℕ) where
       let graph = generated_graph number 20000 60000 in
       let saids = said_by (lines standard.line_bytes (demo_files number).updates) in
       let counted : IsTallyOf standard demo_patterns graph saids t =
-          subst (λ (u : List ℕ). IsTallyOf standard demo_patterns graph (said_by (lines standard.line_bytes u)) t) same_updates
-          (subst (λ (qs : List PatternGraph). IsTallyOf standard qs graph (said_by (lines standard.line_bytes updates)) t) same_patterns
-          (subst (λ (h : Graph). IsTallyOf standard patterns h (said_by (lines standard.line_bytes updates)) t) same_graph
-          (subst (λ (l : Limits). IsTallyOf l patterns g (said_by (lines standard.line_bytes updates)) t) under of))) in
+      subst (λ (u : List ℕ). IsTallyOf standard demo_patterns graph (said_by (lines standard.line_bytes u)) t) same_updates
+      (subst (λ (qs : List PatternGraph). IsTallyOf standard qs graph (said_by (lines standard.line_bytes updates)) t) same_patterns
+      (subst (λ (h : Graph). IsTallyOf standard patterns h (said_by (lines standard.line_bytes updates)) t) same_graph
+      (subst (λ (l : Limits). IsTallyOf l patterns g (said_by (lines standard.line_bytes updates)) t) under of))) in
       let few : 1 + length saids < 10 ^ 64 = omega (arith, line_count number, length-map (lines standard.line_bytes (demo_files number).updates) update_reading) in
       summary-is graph demo_patterns saids (a ∙ ap (λ (h : Graph). length h.vertices) same_graph) (b ∙ ap (λ (h : Graph). length h.triples) same_graph) counted refl refl few
       (subst Written same_patterns written)

@@ -1,5 +1,5 @@
 -- An accepted file on a shelf.
-use Rattle.std.proofs.Common.{◌≡◌, ℕ, ◌≤◌, ◌<◌, nat_lt, false, List, length, map, Option, Some, Result, Ok, Err, ap, ◌∙◌, refl, arith}
+use Rattle.std.proofs.Common.{◌≡◌, ℕ, ◌≤◌, nat_lt, false, List, length, map, Option, Some, Result, Ok, Err, ap, ◌∙◌, refl, arith}
 use Rattle.std.proofs.lemmas.Bool.Decides.{nat_tests}
 use Rattle.flux_model.specs.Limits.{standard}
 use Rattle.flux_model.specs.Lines.{whole}

@@ -1,5 +1,5 @@
 -- The lines of the updates, counted one by one.
-use Rattle.std.proofs.Common.{◌≡◌, ℕ, suc, ◌+◌, ◌*◌, ◌<◌, ◌≤◌, Bool, true, false, cond, List, [], ◌∷◌, ◌++◌, length, take, drop, replicate, get_or, Some, refl, sym, ap, subst, ◌∙◌, arith, count_by, append-nil}
+use Rattle.std.proofs.Common.{◌≡◌, ℕ, ◌<◌, cond, List, [], ◌∷◌, ◌++◌, length, take, drop, replicate, get_or, Some, refl, sym, ap, subst, ◌∙◌, arith}
 use Rattle.std.proofs.lemmas.List.{get_or-replicate}
 use Rattle.std.proofs.lemmas.List.Sums.{sum_by-cons}
 use Rattle.std.proofs.lemmas.Grind.{common_steps}
@@ -9,21 +9,21 @@ use Rattle.flux_model.specs.Lines.{InputLine, held, whole, rest, last_line, line
 use Rattle.flux_model.specs.Reading.{update_reading}
 use Rattle.flux_model.specs.Graph.{Graph}
 use Rattle.flux_model.specs.Pattern.{PatternGraph}
-use Rattle.flux_model.specs.Report.{Outcome, Ignored, Rejected, Changed, outcome, outcomes, next_graph, is_accepted, is_refused}
+use Rattle.flux_model.specs.Report.{Outcome, outcome, outcomes, next_graph, is_accepted, is_refused}
 use Rattle.flux_model.specs.declared.limits.Limits.{Limits}
 use Rattle.flux_model.specs.declared.said.Said.{Said}
 use Rattle.flux_model.specs.declared.graph.Update.{Update}
-use Rattle.flux_gen.specs.Law.{gained_by, lost_by, gained_in, lost_in}
+use Rattle.flux_gen.specs.Law.{gained_by, lost_by}
 use Rattle.stream_lines.specs.Waiting.{Waiting}
 use Rattle.stream_lines.specs.Follows.{Follows, rest_line}
 use Rattle.stream_lines.proofs.CallerLemmas.{rest-nil}
 use Rattle.stream_lines.proofs.KeptLemmas.{rest_line-rest_of}
-use Rattle.watch_core.specs.Session.{WatchState, said_by, after_said}
+use Rattle.watch_core.specs.Session.{WatchState, after_said}
 use Rattle.watch_core.specs.SessionStates.{SessionState, watched}
 use Rattle.watch_core.specs.Taken.{IsTaken}
 use Rattle.watch_core.specs.declared.taken.Taken.{Taken}
 use Rattle.watch_core.specs.declared.taken.Taken.TheVariants as taken
-use Rattle.flux_demo.specs.Tally.{TallyState, no_tally, gains, losses, accepted_by, refused_by, GrownBy, IsNext}
+use Rattle.flux_demo.specs.Tally.{TallyState, no_tally, gains, losses, accepted_by, refused_by, IsNext}
 use Rattle.flux_demo.specs.Progress.{Counting}
 use Rattle.flux_demo.specs.Summary.{IsTallyOf}
 use Rattle.flux_demo.proofs.DeltaLemmas.{found-at}
@@ -113,10 +113,10 @@ pub counted-line : (limits : Limits) (patterns : List PatternGraph) (first : Gra
 counted-line limits patterns first all left x s r came_to t u under same after is next before =
     let said : Said Update = update_reading x in
     let so : IsTaken patterns s.graph (outcome limits s.graph said) came_to =
-        subst (λ (l : Limits). IsTaken patterns s.graph (outcome l s.graph said) came_to) under
-        (subst (λ (qs : List PatternGraph). IsTaken qs s.graph (outcome s.limits s.graph said) came_to) same is) in
+    subst (λ (l : Limits). IsTaken patterns s.graph (outcome l s.graph said) came_to) under
+    (subst (λ (qs : List PatternGraph). IsTaken qs s.graph (outcome s.limits s.graph said) came_to) same is) in
     let graph : r.graph ≡ next_graph limits s.graph said =
-        ap (λ (w : WatchState). w.graph) after ∙ ap (λ (l : Limits). next_graph l s.graph said) under in
+    ap (λ (w : WatchState). w.graph) after ∙ ap (λ (l : Limits). next_graph l s.graph said) under in
     subst (λ (g : Graph). Counting limits patterns first g all left u) (sym graph) (Counting-turn limits patterns first all s.graph said left came_to t u before so next)
 
 -- ---- the lines that wait
@@ -133,9 +133,9 @@ left_of-first n piece old new empty same pushed =
     let is : rest old.line_bytes [] ≡ old.rest = ap (λ m. rest m []) size ∙ rest-nil n ∙ sym (ap (λ (w : Waiting). w.rest) empty) in
     let follows = pushed [] is in
     let queue : new.queue ≡ whole n piece =
-        follows.queue ∙ ap (λ (w : Waiting). w.queue ++ follows.more) empty ∙ sym follows.lines ∙ ap (λ m. whole m piece) size in
+    follows.queue ∙ ap (λ (w : Waiting). w.queue ++ follows.more) empty ∙ sym follows.lines ∙ ap (λ m. whole m piece) size in
     let left : rest_line new.line_bytes new.rest ≡ last_line n (open_end piece) =
-        ap (λ m. rest_line m new.rest) (same ∙ size) ∙ ap (rest_line n) (follows.rest ∙ ap (λ m. rest m piece) size) ∙ rest_line-rest_of n (open_end piece) in
+    ap (λ m. rest_line m new.rest) (same ∙ size) ∙ ap (rest_line n) (follows.rest ∙ ap (λ m. rest m piece) size) ∙ rest_line-rest_of n (open_end piece) in
     λ i. queue i ++ left i
 
 -- the first line that waits, and the others

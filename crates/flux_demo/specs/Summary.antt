@@ -11,7 +11,8 @@ use Rattle.flux_gen.specs.Law.{gained_in, lost_in}
 use Rattle.flux_demo.specs.Tally.{TallyState}
 
 -- the tally of lines that say this, from the graph g on
-pub record IsTallyOf (limits : Limits) (patterns : List PatternGraph) (g : Graph) (saids : List (Said Update)) (t : TallyState) : Type 0 where
+pub record IsTallyOf (limits : Limits) (patterns : List PatternGraph) (g : Graph) (saids : List (Said Update))
+    (t : TallyState) : Type 0 where
   pub lines : t.lines ≡ length saids
   pub accepted : t.accepted ≡ count_by is_accepted (outcomes limits g saids)
   pub refused : t.refused ≡ count_by is_refused (outcomes limits g saids)

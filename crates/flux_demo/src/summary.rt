@@ -35,12 +35,7 @@ pub fn write_summary(
     let mut text = Vec::new(alloc);
     write_start(number, vertices, triples, &mut text)?;
     write_patterns(patterns, tally, &mut text)?;
-    write_end(
-        tally.lines(),
-        tally.accepted(),
-        tally.refused(),
-        &mut text,
-    )?;
+    write_end(tally.lines(), tally.accepted(), tally.refused(), &mut text)?;
     Ok(text)
 }
 
@@ -79,12 +74,7 @@ fn write_patterns(patterns: &Patterns, tally: &Tally, out: &mut Vec<u8>) -> Resu
 }
 
 /// Writes a line of a name and two counts.
-fn write_counts(
-    name: &[u8],
-    gained: u128,
-    lost: u128,
-    out: &mut Vec<u8>,
-) -> Result<(), AllocError>
+fn write_counts(name: &[u8], gained: u128, lost: u128, out: &mut Vec<u8>) -> Result<(), AllocError>
     ensures { OnOk result (out.new.items ≡ out.old.items ++ text_line (name.now ∷ decimal gained ∷ decimal lost ∷ [])) }
 {
     let mut digits = Buffer::new();

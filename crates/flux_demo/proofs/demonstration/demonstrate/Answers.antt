@@ -1,7 +1,6 @@
 use Rattle.std.proofs.Common.{◌≡◌, ◌≤◌, ◌∙◌, ℕ, List, [], ◌∷◌, length, sym, ap, subst}
 use Rattle.flux_model.specs.Limits.{standard}
 use Rattle.flux_model.specs.Generated.{Files, generated}
-use Rattle.flux_model.specs.Pattern.{PatternGraph}
 use Rattle.flux_gen.specs.Law.{generated_graph, star, walk, fork, ring}
 use Rattle.flux_gen.specs.declared.files.Sizes.{Sizes}
 use Rattle.pattern_registry.specs.States.{PatternStates}
@@ -35,11 +34,11 @@ returns g c =
     let graph_bytes : c.graph.result.now ≡ (demo_files number).graph = c.graph.ensures ∙ ap (λ (files : Files). files.graph) made in
     let pattern_bytes : c.patterns.result.now ≡ (demo_files number).patterns = c.patterns.ensures ∙ ap (λ (files : Files). files.patterns) made in
     let graph = c.in-Ok.ensures.ok (generated_graph number 20000 60000)
-        (subst (λ (bytes : List ℕ). IsGraphFile bytes (generated_graph number 20000 60000)) (sym graph_bytes) (is_graph_file number)) in
+    (subst (λ (bytes : List ℕ). IsGraphFile bytes (generated_graph number 20000 60000)) (sym graph_bytes) (is_graph_file number)) in
     let patterns = c.in-Ok-load_patterns.ensures.ok (star ∷ walk ∷ fork ∷ ring ∷ [])
-        (subst (λ (bytes : List ℕ). IsPatternFile bytes (star ∷ walk ∷ fork ∷ ring ∷ [])) (sym pattern_bytes) (is_pattern_file number)) in
+    (subst (λ (bytes : List ℕ). IsPatternFile bytes (star ∷ walk ∷ fork ∷ ring ∷ [])) (sym pattern_bytes) (is_pattern_file number)) in
     let lent : c.patterns-patterns.result.now ≡ s.registry.patterns =
-        c.patterns-patterns.ensures.patterns ∙ ap (λ (r : PatternStates). r.patterns) c.registry.ensures.registry ∙ c.in_ok-tally.ensures.patterns in
+    c.patterns-patterns.ensures.patterns ∙ ap (λ (r : PatternStates). r.patterns) c.registry.ensures.registry ∙ c.in_ok-tally.ensures.patterns in
     record {
       text = demo-written c.write_summary.result (λ text. text.items) number c.vertex_count-vertices.result c.edge_count-triples.result c.in_ok-tally.tally
           s.limits s.graph c.patterns-patterns.result.now s.registry.patterns c.updates.result.now

@@ -17,8 +17,8 @@ loop-line-init g c =
     let first = c.args.session.now in
     let all = said_by (lines standard.line_bytes c.args.updates.now) in
     let left : left_of c.push.new.self ≡ lines standard.line_bytes c.args.updates.now =
-        left_of-first c.standard.result.line_bytes c.args.updates.now c.new-lines.result c.push.new.self c.new-lines.ensures c.push.ensures.line_bytes c.in_ok-push.ensures.lines
-        ∙ ap (λ (l : Limits). lines l.line_bytes c.args.updates.now) c.standard.ensures in
+    left_of-first c.standard.result.line_bytes c.args.updates.now c.new-lines.result c.push.new.self c.new-lines.ensures c.push.ensures.line_bytes c.in_ok-push.ensures.lines
+    ∙ ap (λ (l : Limits). lines l.line_bytes c.args.updates.now) c.standard.ensures in
     let patterns : c.patterns.result.now ≡ first.registry.patterns = c.patterns.ensures.patterns ∙ ap (λ (r : PatternStates). r.patterns) c.registry.ensures.registry in
     let count = c.count.ensures.count ∙ ap (λ (qs : List PatternGraph). length qs) patterns in
     record {

@@ -1,4 +1,4 @@
-use Rattle.std.proofs.Common.{ℕ, List, ◌≡◌, ◌∙◌, ◌<◌, length, arith, subst, sym, ap}
+use Rattle.std.proofs.Common.{ℕ, List, ◌∙◌, length, arith, subst, sym, ap}
 use Rattle.flux_demo.specs.Tally.{gained_at, lost_at, GrownBy}
 use Rattle.flux_demo.proofs.TallyLemmas.{within-grown, kept-whole}
 use Rattle.flux_demo.proofs.tally.Tally.take.Goals as goal
