@@ -39,10 +39,6 @@ map_front sign k name = (sign ++ spaced (decimal k)) ++ spaced name
 pub map_line-front : (sign : List ℕ) (k : ℕ) (name m : List ℕ) → map_line sign k name m ≡ line_from (map_front sign k name) m
 map_line-front sign k name m = map_line-parts sign k name m ∙ sym (append_assoc (sign ++ spaced (decimal k)) (spaced name) (map_end m))
 
--- and those of the answers
-pub answer_line-front : (name m : List ℕ) → answer_line name m ≡ line_from (codes "m" ++ spaced name) m
-answer_line-front name m = answer_line-parts name m ∙ sym (append_assoc (codes "m") (spaced name) (map_end m))
-
 each_line : (F : List ℕ → List ℕ) (front : List ℕ) (ms : List (List ℕ)) → ((m : List ℕ) → F m ≡ line_from front m) → flat_map F ms ≡ flat_map (line_from front) ms
 each_line F front [] alike = refl
 each_line F front (m ∷ ms) alike = ap (λ t. t ++ flat_map F ms) (alike m) ∙ ap (λ t. line_from front m ++ t) (each_line F front ms alike)

@@ -7,9 +7,9 @@ ghost use Rattle.delta_report.specs.Block.{HavePatterns};
 ghost use Rattle.delta_report.specs.Answers.{answer_line, listing, answer_count, total_line, answers_text};
 ghost use Rattle.delta_report.specs.Sorted.{AreSorted};
 
-use crate::map_words::end_map_lines;
-use flux_model::{Deltas, Maps, Patterns};
-use line_words::{end_line, start_line, write_word};
+use crate::map_words::end_map_line;
+use flux_model::{Deltas, Map, Maps, Patterns};
+use line_words::{end_line, start_line};
 use std::alloc::AllocError;
 
 /// Sorts the maps of each delta, and writes for each delta a line `m NAME IDS` for each map that was gained, and at the
@@ -57,13 +57,19 @@ fn write_maps(name: &[u8], maps: &Maps, out: &mut Vec<u8>) -> Result<(), AllocEr
     ensures ok { OnOk result (out.new.items ≡ out.old.items ++ flat_map (answer_line name.now) maps.now) }
     ensures err { OnErr result (GrewByFront out.old.items out.new.items (flat_map (answer_line name.now) maps.now)) }
 {
-    if maps.len() == 0 {
-        return Ok(());
+    for i in 0..maps.len() {
+        write_map(name, maps.get(i), out)?;
     }
-    let from = out.as_slice().len();
+    Ok(())
+}
+
+/// Writes the line of a map.
+fn write_map(name: &[u8], map: &Map, out: &mut Vec<u8>) -> Result<(), AllocError>
+    ensures ok { OnOk result (out.new.items ≡ out.old.items ++ answer_line name.now map.now) }
+    ensures err { OnErr result (GrewByFront out.old.items out.new.items (answer_line name.now map.now)) }
+{
     out.push(b'm')?;
-    write_word(name, out)?;
-    end_map_lines(from, maps, out)
+    end_map_line(name, map, out)
 }
 
 /// Writes the last line.

@@ -1,11 +1,21 @@
 //! The words with which the line of a map ends, and lines that begin alike.
 ghost use Rattle.std.specs.Prelude.{◌≡◌, ◌<◌, ◌≤◌, ◌++◌, length, take, drop, slice_range, flat_map, OnOk, OnErr};
 ghost use Rattle.flux_model.specs.Grown.{GrewByFront};
-ghost use Rattle.delta_report.specs.MapWords.{spaced_ids, map_end, line_from};
+ghost use Rattle.delta_report.specs.MapWords.{spaced_ids, map_end, line_from, map_words};
 
 use flux_model::{Map, Maps};
-use line_words::{end_line, write_number};
+use line_words::{end_line, write_number, write_word};
 use std::alloc::AllocError;
+
+/// Writes what the line of a map ends with: the name of its pattern, its ids, and the line's end.
+pub(crate) fn end_map_line(name: &[u8], map: &Map, out: &mut Vec<u8>) -> Result<(), AllocError>
+    ensures ok { OnOk result (out.new.items ≡ out.old.items ++ map_words name.now map.now) }
+    ensures err { OnErr result (GrewByFront out.old.items out.new.items (map_words name.now map.now)) }
+{
+    write_word(name, out)?;
+    write_ids(map, out)?;
+    end_line(out)
+}
 
 /// Ends the first line of some maps, which has begun with the bytes of the text from `from` on, and writes a line for each map
 /// behind it. The lines begin alike, so each copies what the first begins with.
