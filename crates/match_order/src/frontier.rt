@@ -16,7 +16,7 @@ pub const MOST: usize = 32;
 #[derive(Drop)]
 pub struct Frontier {
     placed: [bool; MOST],
-    anchors: [Option<usize>; MOST],
+    anchors: [Option<u8>; MOST],
 }
 
 impl Frontier {
@@ -36,10 +36,12 @@ impl Frontier {
         requires count { HasCount (length tree.now.links) self.old }
         ensures { (before : List ℕ) → AreMarks tree.now before self.old → AreMarks tree.now (u ∷ before) self.new }
     {
+        // For the proof: there are at most 32 vertices.
+        let mark = u as u8;
         self.placed[u] = true;
         for w in 0..tree.vertex_count() {
             if are_neighbours(tree, w, u) {
-                self.anchors[w] = Some(u);
+                self.anchors[w] = Some(mark);
             }
         }
     }
@@ -56,7 +58,10 @@ impl Frontier {
     {
         let vertex = least_by(live, |u| self.is_open(u))?;
         let anchor = self.anchors[vertex].unwrap();
-        Some(Place { vertex, anchor })
+        Some(Place {
+            vertex: vertex as u8,
+            anchor,
+        })
     }
 
     /// Whether vertex `u` has an anchor and is not placed.

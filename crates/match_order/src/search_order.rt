@@ -45,7 +45,7 @@ impl SearchOrder {
             0 => self.start,
             _ => {
                 let place = &self.places[j - 1];
-                place.vertex
+                place.vertex as usize
             }
         }
     }
@@ -57,7 +57,7 @@ impl SearchOrder {
         ensures { result ≡ slice_index (anchors self.now) (j - 1) }
     {
         let place = &self.places[j - 1];
-        place.anchor
+        place.anchor as usize
     }
 
     /// One more place, behind the others.
@@ -122,7 +122,7 @@ impl Growth {
         ensures marks { AreMarks tree.now (latest_first self.new.order) self.new.frontier }
     {
         if let Some(place) = self.frontier.next(live) {
-            self.frontier.place(tree, place.vertex);
+            self.frontier.place(tree, place.vertex as usize);
             self.order.push(place);
         }
     }

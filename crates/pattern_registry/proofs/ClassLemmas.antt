@@ -4,7 +4,11 @@ use Rattle.std.specs.Prelude.{IsPermutation, flat_map}
 use Rattle.std.specs.List.{range_with_len}
 use Rattle.std.proofs.lemmas.List.{append-nil}
 use Rattle.std.proofs.lemmas.List.Concat.{flat_map-append}
-use Rattle.std.proofs.lemmas.List.Sorted.{IsPermutation-append, IsPermutation-sym}
+use Rattle.std.proofs.lemmas.List.Sorted.{IsPermutation-append, IsPermutation-refl, IsPermutation-sym}
+use Rattle.flux_model.specs.Change.{gained, without}
+use Rattle.flux_model.specs.Embedding.{embeddings}
+use Rattle.flux_model.specs.Graph.{Graph}
+use Rattle.flux_model.specs.Pattern.{PatternGraph}
 use Rattle.tree_search.specs.Members.{GrewByAll}
 
 range_next : (s n : ℕ) → range_with_len s (n + 1) ≡ range_with_len s n ++ (s + n) ∷ []
@@ -23,3 +27,9 @@ classes_next {X} class i old new before grew =
     subst (λ (l : List X). IsPermutation l new) (sym all)
     (subst (λ (l : List X). IsPermutation (flat_map class (range_with_len 0 i) ++ class i) l) (sym grew.is)
     (IsPermutation-append (flat_map class (range_with_len 0 i)) old (class i) grew.more before (IsPermutation-sym grew.more (class i) grew.permutation)))
+
+-- where there is no embedding, none is gained
+pub nothing_gained : (q : PatternGraph) (old new : Graph) (maps : List (List ℕ)) → embeddings q new ≡ [] → maps ≡ [] → IsPermutation (gained q old new) maps
+nothing_gained q old new maps none empty =
+    subst (λ ms. IsPermutation (gained q old new) ms) (sym empty)
+    (subst (λ es. IsPermutation (without es (embeddings q old)) []) (sym none) (IsPermutation-refl []))

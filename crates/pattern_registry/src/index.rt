@@ -16,7 +16,7 @@ use flux_model::{Cards, Ledger, Maps, Pattern, Steps, Triple};
 use graph_traits::{HoldGraph, ReadGraph};
 use query_tree::QueryTree;
 use std::alloc::{AllocError, Global};
-use tree_search::{all, at_edge};
+use tree_search::{all, at_edge, has_none};
 
 /// What is kept of one pattern.
 #[derive(Drop)]
@@ -151,6 +151,9 @@ impl PatternIndex {
         // For the proof: what every graph keeps.
         let _count = graph.edge_count();
         let mut maps = Maps::new(alloc);
+        if has_none(pattern, &self.tree, &self.dcg, graph) {
+            return Ok(maps);
+        }
         for i in 0..pattern.edge_count() {
             at_edge(
                 pattern, &self.tree, &self.dcg, graph, i, triple, &mut maps, steps,

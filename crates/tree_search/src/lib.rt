@@ -13,7 +13,7 @@
 //! - `candidates`: the ids that a vertex may have beside its anchor's, from the shortest of some lists.
 //! - `other_rows`: the shorter row of another neighbour's id.
 //! - `search`: how a search goes on from the ids that are given.
-//! - `starts`: `all`, the search for all, and `at_edge`, that for those that use a triple.
+//! - `starts`: `all`, the search for all, `at_edge`, that for those that use a triple, and `has_none`, where there are none.
 //!
 //! Only what takes the embeddings wants memory.
 #![tactic(auto)]
@@ -28,4 +28,4 @@ mod search;
 mod starts;
 
 pub use found::Found;
-pub use starts::{all, at_edge};
+pub use starts::{all, at_edge, has_none};

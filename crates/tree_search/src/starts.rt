@@ -1,5 +1,6 @@
-//! Where a search starts: `all` at the root, and `at_edge` at the tail of an edge that is sent to a triple.
-ghost use Rattle.std.specs.Prelude.{◌≡◌, ◌≤◌, ◌+◌, ◌<◌, true, OnOk, OnErr, length};
+//! Where a search starts: `all` at the root, and `at_edge` at the tail of an edge that is sent to a triple; and `has_none`, where
+//! there is nothing to search for.
+ghost use Rattle.std.specs.Prelude.{◌≡◌, ◌≤◌, ◌+◌, ◌<◌, [], true, OnOk, OnErr, length};
 ghost use Rattle.flux_model.specs.Classes.{edge_class};
 ghost use Rattle.flux_model.specs.Costs.{no_dead_end_cost, edge_cost, are_explicit, may_be_sent};
 ghost use Rattle.flux_model.specs.Embedding.{embeddings};
@@ -16,10 +17,23 @@ use crate::found::Found;
 use crate::search::{Search, extend, may_have, may_take};
 use dcg_store::Dcg;
 use flux_model::{Ledger, Partial, Pattern, PatternEdge, Steps, Triple};
-use graph_traits::ReadGraph;
+use graph_traits::{HoldGraph, ReadGraph};
 use nontree_test::label_numbers;
 use query_tree::QueryTree;
 use std::alloc::AllocError;
+
+/// Whether some vertex of the pattern has no explicit pair, so that the pattern has no embedding in the graph. It takes no step.
+///
+/// The tree has to be the pattern's, and the index exact over the graph.
+pub fn has_none<G: HoldGraph>(pattern: &Pattern, _tree: &QueryTree, dcg: &Dcg, graph: &G) -> bool
+    requires belongs { BelongsTo pattern.now _tree.now }
+    requires exact { IsExact pattern.now _tree.now (G.graph graph.now) dcg.now }
+    ensures none { result ≡ true → embeddings pattern.now (G.graph graph.now) ≡ [] }
+{
+    // For the proof: the graph is one.
+    let _count = graph.vertex_count();
+    is_barren(pattern, dcg)
+}
 
 /// Hands every embedding of the pattern in the graph to `found`, each once.
 ///

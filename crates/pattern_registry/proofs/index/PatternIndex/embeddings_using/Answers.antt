@@ -8,9 +8,14 @@ use Rattle.flux_model.specs.Change.{gained}
 use Rattle.flux_model.specs.Graph.{without_triple}
 use Rattle.flux_model.specs.Classes.{edge_class}
 use Rattle.flux_laws.proofs.ClassesLemmas.{gained_by_classes}
-use Rattle.pattern_registry.proofs.ClassLemmas.{classes_next}
+use Rattle.pattern_registry.proofs.ClassLemmas.{classes_next, nothing_gained}
 use Rattle.pattern_registry.proofs.SpendLemmas.{looks_next}
 use Rattle.pattern_registry.proofs.index.PatternIndex.embeddings_using.Goals as goal
+
+pub returns-then-has_none-clause-gained : goal.returns-then-has_none-clause-gained
+returns-then-has_none-clause-gained g c =
+    let h = g.G.HoldGraph.graph c.args.graph.now in
+    nothing_gained c.args.pattern.now (without_triple h c.args.triple.now) h c.new-maps.result (c.has_none.ensures.none c.if-has_none.true) c.new-maps.ensures
 
 pub loop-i-preserved : goal.loop-i-preserved
 loop-i-preserved g c = record {
