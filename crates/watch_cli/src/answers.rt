@@ -147,7 +147,8 @@ fn put_pattern<G: ReadGraph<L>, W: Sink, L: Ledger>(
         let _ = put_report(report, out);
         return Err(Status::Memory);
     };
-    put_maps(registry.patterns().get(k).name().bytes(), &maps, report, out)?;
+    let name = registry.patterns().get(k).name();
+    put_maps(name.bytes(), &maps, report, out)?;
     Ok(maps.len())
 }
 
@@ -193,12 +194,7 @@ fn put_maps<W: Sink>(
 }
 
 /// Adds the line of a map to the report, and puts it where it is long. Where memory is refused, what was gathered is put first.
-fn put_map<W: Sink>(
-    name: &[u8],
-    map: &Map,
-    report: &mut Vec<u8>,
-    out: &mut W,
-) -> Result<(), Status>
+fn put_map<W: Sink>(name: &[u8], map: &Map, report: &mut Vec<u8>, out: &mut W) -> Result<(), Status>
     ensures ok { OnOk result (
         Wrote (W.taken out.old) (W.taken out.new) report.old.items report.new.items (answer_line name.now map.now)) }
     ensures err { OnErr result (

@@ -42,20 +42,26 @@ const NO_NUMBER: Case = Case {
     ..DONE
 };
 
-const CASES: [Case; 10] = [
+/// Twice the same number, over shelves of two seeds.
+const SEVENS: [Case; 2] = [
     DONE,
-    Case { seed: 9, ..DONE },
     Case {
         number: "007",
+        seed: 9,
         ..DONE
     },
-    Case {
-        room: 9,
-        status: Status::WriteFault,
-        out: "demo 7\ngr",
-        err: "turboflux: write fault\n",
-        ..DONE
-    },
+];
+
+/// An output that takes nine bytes.
+const NO_ROOM: [Case; 1] = [Case {
+    room: 9,
+    status: Status::WriteFault,
+    out: "demo 7\ngr",
+    err: "turboflux: write fault\n",
+    ..DONE
+}];
+
+const NO_NUMBERS: [Case; 6] = [
     Case {
         number: "18446744073709551616",
         ..NO_NUMBER
@@ -129,13 +135,13 @@ fn is_right(alloc: Global, case: &Case) -> Result<bool, AllocError> {
 }
 
 /// How many cases, from the first on, are right.
-fn count_right(alloc: Global) -> Result<usize, AllocError> {
-    for i in 0..CASES.len() {
-        if !is_right(alloc, &CASES[i])? {
+fn count_right(alloc: Global, cases: &[Case]) -> Result<usize, AllocError> {
+    for i in 0..cases.len() {
+        if !is_right(alloc, &cases[i])? {
             return Ok(i);
         }
     }
-    Ok(CASES.len())
+    Ok(cases.len())
 }
 
 /// Whether the largest number is shown: its summary begins with it, and with the number of vertices.
@@ -150,8 +156,20 @@ fn is_largest_shown(alloc: Global) -> Result<bool, AllocError> {
 }
 
 #[test]
-fn numbers_are_shown(rt: HostRuntime) -> Result<(), Fail> {
-    assert_eq!(rt; count_right(rt.alloc())?, CASES.len());
+fn seven_is_shown_twice_the_same(rt: HostRuntime) -> Result<(), Fail> {
+    assert_eq!(rt; count_right(rt.alloc(), &SEVENS)?, SEVENS.len());
+    Ok(())
+}
+
+#[test]
+fn a_front_is_shown_where_no_more_is_taken(rt: HostRuntime) -> Result<(), Fail> {
+    assert_eq!(rt; count_right(rt.alloc(), &NO_ROOM)?, NO_ROOM.len());
+    Ok(())
+}
+
+#[test]
+fn words_that_are_no_numbers(rt: HostRuntime) -> Result<(), Fail> {
+    assert_eq!(rt; count_right(rt.alloc(), &NO_NUMBERS)?, NO_NUMBERS.len());
     Ok(())
 }
 

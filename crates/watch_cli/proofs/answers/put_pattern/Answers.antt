@@ -21,13 +21,13 @@ pub returns-in_err-put_maps-clause-err : goal.returns-in_err-put_maps-clause-err
 returns-in_err-put_maps-clause-err g c =
     let p = err_from_is_err_and c.from_residual.result c.from_residual.ensures.1 in
     rw p.1 (λ q is. subst (λ t. AppendsFront (g.W.Sink.taken c.args.out.now) (g.W.Sink.taken c.put_maps.new.out) (c.args.report.now.items ++ t))
-    (lines_named c.args.registry.now.patterns c.args.k (g.G.HoldGraph.graph c.args.graph.now) c.get.result.now q c.bytes.result.now c.in-Ok.maps (ap (λ ps. slice_get ps c.args.k) (sym c.patterns.ensures.patterns) ∙ c.get.ensures) is (c.bytes.ensures.value ∙ c.name.ensures) (c.in-Ok.ensures.answers q is))
+    (lines_named c.args.registry.now.patterns c.args.k (g.G.HoldGraph.graph c.args.graph.now) c.get.result.now q c.bytes.result.now c.in-Ok.maps (ap (λ ps. slice_get ps c.args.k) (sym c.patterns.ensures.patterns) ∙ c.get.ensures) is (c.bytes.ensures.value ∙ c.name-name.ensures) (c.in-Ok.ensures.answers q is))
     c.in_err-put_maps.ensures.err)
 
 pub returns-clause-ok : goal.returns-clause-ok
 returns-clause-ok g c =
     λ q is. subst (Wrote (g.W.Sink.taken c.args.out.now) (g.W.Sink.taken c.put_maps.new.out) c.args.report.now.items c.put_maps.new.report.items)
-    (lines_named c.args.registry.now.patterns c.args.k (g.G.HoldGraph.graph c.args.graph.now) c.get.result.now q c.bytes.result.now c.in-Ok.maps (ap (λ ps. slice_get ps c.args.k) (sym c.patterns.ensures.patterns) ∙ c.get.ensures) is (c.bytes.ensures.value ∙ c.name.ensures) (c.in-Ok.ensures.answers q is))
+    (lines_named c.args.registry.now.patterns c.args.k (g.G.HoldGraph.graph c.args.graph.now) c.get.result.now q c.bytes.result.now c.in-Ok.maps (ap (λ ps. slice_get ps c.args.k) (sym c.patterns.ensures.patterns) ∙ c.get.ensures) is (c.bytes.ensures.value ∙ c.name-name.ensures) (c.in-Ok.ensures.answers q is))
     c.in_ok-put_maps.ensures.ok
 
 pub returns-clause-count : goal.returns-clause-count
