@@ -1,8 +1,8 @@
 //! Runs of `watch` that end early, and of words of no shape.
-use crate::play::{Lower, Run, WATCH, count_right};
 use flux_model::Code;
 use std::test::Fail;
 use watch_cli::Status;
+use worked_play::{Lower, Run, WATCH, count_right};
 
 /// The words have no shape, and nothing can be told of it.
 const NO_SHAPE: Run = Run {

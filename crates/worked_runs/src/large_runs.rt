@@ -1,11 +1,11 @@
 //! Runs over graphs that are too large to write down.
-use crate::play::{WATCH, end_of, words_of};
 use flux_model::Limits;
 use flux_outside::{MemShelf, MemSink, MemSource};
 use line_words::{end_line, start_line, write_number};
 use std::alloc::{AllocError, Global};
 use std::test::Fail;
 use watch_cli::Status;
+use worked_play::{WATCH, end_of, words_of};
 
 /// How many bytes each output takes.
 const ROOM: usize = 4096;

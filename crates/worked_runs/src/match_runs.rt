@@ -1,8 +1,8 @@
 //! Runs of `match`.
-use crate::play::{Lower, MATCH, Run, count_right};
 use flux_model::Code;
 use std::test::Fail;
 use watch_cli::Status;
+use worked_play::{Lower, MATCH, Run, count_right};
 
 const TRIANGLE: Run = Run {
     graph: "v 1\nv 2\nv 3\ne 1 2 r\ne 2 3 r\ne 3 1 r\ne 3 1 r\n",

@@ -1,6 +1,6 @@
 //! The example of payments that the repository ships.
-use crate::play::{MATCH, Run, WATCH, count_right};
 use std::test::Fail;
+use worked_play::{MATCH, Run, WATCH, count_right};
 
 const PATTERNS: &str = "p ring hom\n\
 v 0 Account\n\

@@ -1,8 +1,8 @@
 //! Runs of `save`.
-use crate::play::{Lower, Run, SAVE, count_right};
 use flux_model::Code;
 use std::test::Fail;
 use watch_cli::Status;
+use worked_play::{Lower, Run, SAVE, count_right};
 
 const GRAPH: &str = "v 2 B A A\nv 1\ne 2 1 s\ne 2 1 r\ne 2 1 s\n";
 

@@ -1,6 +1,6 @@
 //! Runs of `watch` to their end.
-use crate::play::{Lower, PATTERN, Run, WATCH, count_right, is_right};
 use std::test::Fail;
+use worked_play::{Lower, PATTERN, Run, WATCH, count_right, is_right};
 
 const ONE_PATTERN: [Run; 8] = [
     Run {

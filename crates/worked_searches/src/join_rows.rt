@@ -2,7 +2,6 @@
 ghost use Rattle.std.specs.Prelude.{◌≡◌, ◌≤◌, length};
 ghost use Rattle.flux_model.specs.Tree.{BelongsTo};
 
-use crate::finds::triple_of;
 use flux_model::{Mode, Partial, Pattern, Steps, Tally};
 use graph_traits::ReadGraph;
 use nontree_test::{earlier, free, joins, label_numbers};
@@ -10,7 +9,7 @@ use query_tree::QueryTree;
 use std::alloc::Global;
 use std::test::Fail;
 use worked_parts::shapes::{HOOK, TRIANGLE};
-use worked_parts::{Unmade, first, graph_of, patterns_of, tree_of};
+use worked_parts::{Unmade, first, graph_of, patterns_of, tree_of, triple_of};
 
 /// A vertex of the pattern with an id.
 type Given = (usize, u32);

@@ -1,14 +1,16 @@
 //! All that is found over graphs that change line by line, worked out by hand.
 ghost use Rattle.flux_model.specs.Tree.{BelongsTo};
 
-use crate::finds::{add_classes, add_found, are_same, finds, found_in, triple_of};
+use crate::finds::{add_found, finds, found_in};
 use flux_model::{Maps, Pattern, Tally, Triple};
 use graph_traits::{KeepGraph, ReadGraph};
 use query_tree::QueryTree;
 use std::alloc::{AllocError, Global};
 use std::test::Fail;
 use worked_parts::shapes::{BOTH, CHAIN, HOOK, RING, TRIANGLE};
-use worked_parts::{Unmade, are_maps, first, graph_of, patterns_of, tree_of};
+use worked_parts::{
+    Unmade, add_classes, are_maps, are_same, first, graph_of, patterns_of, tree_of, triple_of,
+};
 
 /// A triple comes or goes.
 #[derive(Clone, Copy)]

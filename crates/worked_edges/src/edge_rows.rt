@@ -1,7 +1,6 @@
 //! What sends one edge of a pattern to a triple, and no edge of a lower number, worked out by hand.
 ghost use Rattle.flux_model.specs.Tree.{BelongsTo};
 
-use crate::finds::{Parts, insert, triple_of};
 use dcg_transition::build;
 use flux_model::{Labels, Maps, Pattern, Steps, Tally, Text};
 use graph_traits::{KeepGraph, ReadGraph};
@@ -10,7 +9,9 @@ use std::alloc::Global;
 use std::test::Fail;
 use tree_search::at_edge;
 use worked_parts::shapes::{BOTH, CHAIN, HOOK, TRIANGLE};
-use worked_parts::{Unmade, are_maps, first, graph_of, patterns_of, tree_of};
+use worked_parts::{
+    Parts, Unmade, are_maps, first, graph_of, insert, patterns_of, tree_of, triple_of,
+};
 
 const ISO_CHAIN: &str = "p chain iso\nv 0\nv 1\nv 2\ne 0 1 r\ne 1 2 r";
 

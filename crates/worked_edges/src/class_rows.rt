@@ -3,7 +3,6 @@
 //! search.
 ghost use Rattle.flux_model.specs.Tree.{BelongsTo};
 
-use crate::finds::{Parts, add_classes, are_same, triple_of};
 use flux_model::{Limits, Maps, Pattern, Tally};
 use graph_traits::ReadGraph;
 use plain_match::{PlainGraph, plain_all};
@@ -11,7 +10,10 @@ use query_tree::QueryTree;
 use std::alloc::Global;
 use std::test::Fail;
 use worked_parts::shapes::{CHAIN, HOOK, RING, TRIANGLE};
-use worked_parts::{Unmade, are_maps, first, graph_of, patterns_of, tree_of, update_of};
+use worked_parts::{
+    Parts, Unmade, add_classes, are_maps, are_same, first, graph_of, patterns_of, tree_of,
+    triple_of, update_of,
+};
 
 /// A line of updates by which a triple comes or goes.
 #[derive(Clone, Copy)]

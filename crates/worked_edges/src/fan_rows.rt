@@ -1,7 +1,6 @@
 //! Searches at a triple beside a vertex of many triples, which go along the shorter row of another neighbour.
 ghost use Rattle.flux_model.specs.Tree.{BelongsTo};
 
-use crate::finds::{Parts, insert, triple_of};
 use dcg_transition::build;
 use flux_model::{Labels, Maps, Pattern, Steps, Tally};
 use graph_traits::{KeepGraph, ReadGraph};
@@ -9,7 +8,9 @@ use query_tree::QueryTree;
 use std::alloc::Global;
 use std::test::Fail;
 use tree_search::at_edge;
-use worked_parts::{Unmade, are_maps, first, graph_of, patterns_of, tree_of};
+use worked_parts::{
+    Parts, Unmade, are_maps, first, graph_of, insert, patterns_of, tree_of, triple_of,
+};
 
 /// Two edges from a vertex, and one from the head of the first to that of the second.
 const FAN: &str = "p fan hom\nv 0\nv 1\nv 2\ne 0 1 r\ne 0 2 s\ne 1 2 t";

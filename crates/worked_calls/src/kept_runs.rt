@@ -1,11 +1,11 @@
 //! What runs hand back.
-use crate::play::{MATCH, Run, SAVE, WATCH, shelf_of, words_of};
 use flux_model::{Limits, Silent, Steps};
 use flux_outside::{MemSink, MemSource};
 use graph_traits::HoldGraph;
 use std::alloc::{AllocError, Global};
 use std::test::Fail;
 use watch_cli::{Kept, run};
+use worked_play::{MATCH, Run, SAVE, WATCH, shelf_of, words_of};
 
 /// A run, and what it hands back: how many lines its session took, and how many vertices and edges its graph has.
 #[derive(Clone, Copy)]

@@ -1,5 +1,7 @@
 //! A run over files, updates and outputs in memory.
+ghost use Rattle.std.specs.Prelude.{◌≡◌, Some, IfOk, codes};
 ghost use Rattle.flux_model.specs.Limits.{IsFair};
+ghost use Rattle.flux_outside.specs.MemShelf.{bytes_of};
 
 use flux_model::{Limits, Silent, Steps};
 use flux_outside::{MemShelf, MemSink, MemSource, Shelf, Sink, Source};
@@ -82,7 +84,7 @@ pub const SAVE: Run = Run {
 };
 
 /// Whether the run ends with these updates as its row says, and writes what it says.
-pub(crate) fn is_right(alloc: Global, row: &Run, updates: &[u8]) -> Result<bool, AllocError> {
+pub fn is_right(alloc: Global, row: &Run, updates: &[u8]) -> Result<bool, AllocError> {
     let limits = limits_of(row.lower);
     if !limits.fair() {
         return Ok(false);
@@ -110,7 +112,7 @@ pub(crate) fn is_right(alloc: Global, row: &Run, updates: &[u8]) -> Result<bool,
 }
 
 /// Runs, and says how that ended.
-pub(crate) fn end_of<F: Shelf, S: Source, W: Sink>(
+pub fn end_of<F: Shelf, S: Source, W: Sink>(
     alloc: Global,
     words: &[String],
     limits: &Limits,
@@ -127,7 +129,7 @@ pub(crate) fn end_of<F: Shelf, S: Source, W: Sink>(
 }
 
 /// How many rows, from the first on, end and write as they should.
-pub(crate) fn count_right(alloc: Global, rows: &[Run]) -> Result<usize, AllocError> {
+pub fn count_right(alloc: Global, rows: &[Run]) -> Result<usize, AllocError> {
     for i in 0..rows.len() {
         if !is_right(alloc, &rows[i], rows[i].updates.as_bytes())? {
             return Ok(i);
@@ -137,7 +139,7 @@ pub(crate) fn count_right(alloc: Global, rows: &[Run]) -> Result<usize, AllocErr
 }
 
 /// The standard limits with one below.
-pub(crate) fn limits_of(lower: Lower) -> Limits {
+pub fn limits_of(lower: Lower) -> Limits {
     let standard = Limits::standard();
     match lower {
         Lower::None => standard,
@@ -155,7 +157,7 @@ pub(crate) fn limits_of(lower: Lower) -> Limits {
 }
 
 /// The words as a command line has them.
-pub(crate) fn words_of(alloc: Global, words: &[&str]) -> Result<Vec<String>, AllocError> {
+pub fn words_of(alloc: Global, words: &[&str]) -> Result<Vec<String>, AllocError> {
     let mut all = Vec::new(alloc);
     for word in words {
         all.push(String::from_str(alloc, word)?)?;
@@ -163,13 +165,22 @@ pub(crate) fn words_of(alloc: Global, words: &[&str]) -> Result<Vec<String>, All
     Ok(all)
 }
 
-/// A shelf with the two files of a run.
-pub(crate) fn shelf_of(alloc: Global, row: &Run) -> Result<MemShelf, AllocError> {
-    let mut shelf = MemShelf::with_seed(alloc, row.seed);
-    shelf.add("g", row.graph.as_bytes())?;
-    shelf.add("p", row.patterns.as_bytes())?;
+/// A shelf with the two files of a run, of which the reads of these numbers fail.
+pub fn shelf_of(alloc: Global, row: &Run) -> Result<MemShelf, AllocError> {
+    let mut shelf = files_of(alloc, row)?;
     for call in row.failing_files {
         shelf.fail_at(*call)?;
     }
+    Ok(shelf)
+}
+
+/// A shelf with the two files of a run.
+pub fn files_of(alloc: Global, row: &Run) -> Result<MemShelf, AllocError>
+    ensures graph { IfOk result (λ shelf. bytes_of shelf.entries (codes "g") ≡ Some row.now.graph) }
+    ensures patterns { IfOk result (λ shelf. bytes_of shelf.entries (codes "p") ≡ Some row.now.patterns) }
+{
+    let mut shelf = MemShelf::with_seed(alloc, row.seed);
+    shelf.add("g", row.graph.as_bytes())?;
+    shelf.add("p", row.patterns.as_bytes())?;
     Ok(shelf)
 }

@@ -1,10 +1,10 @@
 //! What runs ask of their inputs and what they put, noted call by call.
-use crate::play::{GRAPH, Lower, MATCH, Run, SAVE, WATCH, end_of, limits_of, shelf_of, words_of};
 use flux_model::Code;
 use flux_outside::{Failed, MemShelf, MemSink, MemSource, Shelf, Sink, Source};
 use std::alloc::{AllocError, Global};
 use std::test::Fail;
 use watch_cli::Status;
+use worked_play::{GRAPH, Lower, MATCH, Run, SAVE, WATCH, end_of, limits_of, shelf_of, words_of};
 
 /// A shelf that notes of each read the name, the place and how many bytes it asks for.
 #[derive(Drop)]
