@@ -5,4 +5,3 @@ pub mod SortedLemmas
 pub mod EmbeddingsLemmas
 pub mod CallerLemmas
 pub mod ListingLemmas
-pub mod TriangleLemmas

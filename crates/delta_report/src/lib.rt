@@ -13,8 +13,6 @@ mod answers;
 mod block;
 mod lines;
 mod map_words;
-#[cfg(test)]
-mod tests;
 
 pub use answers::write_answers;
 pub use block::write_deltas;

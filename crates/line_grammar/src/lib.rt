@@ -6,8 +6,6 @@ mod labels;
 mod lines;
 mod number;
 mod parts;
-#[cfg(test)]
-mod tests;
 mod words;
 
 pub use lines::{read_graph_line, read_pattern_line, read_update_line};

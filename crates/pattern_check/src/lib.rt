@@ -5,7 +5,5 @@ mod connected;
 mod open;
 mod reader;
 mod refusal;
-#[cfg(test)]
-mod tests;
 
 pub use reader::PatternReader;

@@ -8,7 +8,5 @@
 
 mod graph;
 mod row;
-#[cfg(test)]
-mod tests;
 
 pub use graph::write_graph;

@@ -1,37 +1,27 @@
-//! Lines and what they say, worked out by hand.
-
-use crate::{read_graph_line, read_pattern_line, read_update_line};
-use flux_model::{Code, Labels, Line, Mode, PatternPart, Said, Text, Triple, Update};
+//! Lines, and what they say.
+use flux_model::{Code, Line, Mode, PatternPart, Said, Triple, Update};
+use line_grammar::{read_graph_line, read_pattern_line, read_update_line};
+use std::alloc::{AllocError, Global};
 use std::test::Fail;
+use worked_parts::are_labels;
 
 /// What a line has to say.
 #[derive(Clone, Copy)]
 enum Want {
     Nothing,
     Refused(Code),
-    Name(&'static [u8], Mode),
-    Vertex(u32, &'static [&'static [u8]]),
-    Edge(u32, u32, &'static [u8]),
+    Name(&'static str, Mode),
+    Vertex(u32, &'static [&'static str]),
+    Edge(u32, u32, &'static str),
     NoVertex(u32),
-    NoEdge(u32, u32, &'static [u8]),
+    NoEdge(u32, u32, &'static str),
 }
 
 use Want::{Edge, Name, NoEdge, NoVertex, Nothing, Refused, Vertex};
 
-fn are_labels(labels: &Labels, names: &[&[u8]]) -> bool {
-    if labels.len() != names.len() {
-        return false;
-    }
-    for (i, name) in names.iter().enumerate() {
-        if labels.get(i).bytes() != *name {
-            return false;
-        }
-    }
-    true
-}
-
-fn is_triple(triple: &Triple, src: u32, dst: u32, label: &[u8]) -> bool {
-    triple.src == src && triple.dst == dst && triple.label.bytes() == label
+/// Whether these are the triple's ends and label.
+fn is_triple(triple: &Triple, src: u32, dst: u32, label: &str) -> bool {
+    triple.src == src && triple.dst == dst && triple.label.bytes() == label.as_bytes()
 }
 
 fn is_update(update: &Update, want: &Want) -> bool {
@@ -49,13 +39,13 @@ fn is_update(update: &Update, want: &Want) -> bool {
 fn is_part(part: &PatternPart, want: &Want) -> bool {
     match (part, want) {
         (PatternPart::Name { name, mode }, Name(word, wanted)) => {
-            name.bytes() == *word && mode == wanted
+            name.bytes() == word.as_bytes() && mode == wanted
         }
         (PatternPart::Vertex { n, labels }, Vertex(number, names)) => {
             n == number && are_labels(labels, names)
         }
         (PatternPart::Edge { tail, head, label }, Edge(from, to, word)) => {
-            tail == from && head == to && label.bytes() == *word
+            tail == from && head == to && label.bytes() == word.as_bytes()
         }
         _ => false,
     }
@@ -79,15 +69,18 @@ fn says_part(said: &Said<PatternPart>, want: &Want) -> bool {
     }
 }
 
-const SIXTEEN: [&[u8]; 16] = [
-    b"a", b"b", b"c", b"d", b"e", b"f", b"g", b"h", b"i", b"j", b"k", b"l", b"m", b"n", b"o", b"p",
+const SIXTEEN: [&str; 16] = [
+    "a", "b", "c", "d", "e", "f", "g", "h", "i", "j", "k", "l", "m", "n", "o", "p",
 ];
 
-const GRAPH_LINES: [(Line<'static>, Want); 27] = [
-    (Line::Held(b"e 1 2 r"), Edge(1, 2, b"r")),
-    (Line::Held(b"e\t1  2 r "), Edge(1, 2, b"r")),
-    (Line::Held(b"  e 01 \t 0000000002\tr"), Edge(1, 2, b"r")),
-    (Line::Held(b"v 2 B A A"), Vertex(2, &[b"A", b"B"])),
+/// A line, and what it has to say.
+type Row = (Line<'static>, Want);
+
+const GRAPH_LINES: [Row; 27] = [
+    (Line::Held(b"e 1 2 r"), Edge(1, 2, "r")),
+    (Line::Held(b"e\t1  2 r "), Edge(1, 2, "r")),
+    (Line::Held(b"  e 01 \t 0000000002\tr"), Edge(1, 2, "r")),
+    (Line::Held(b"v 2 B A A"), Vertex(2, &["A", "B"])),
     (Line::Held(b"v 4294967295"), Vertex(4294967295, &[])),
     (
         Line::Held(b"v 1 p o n m l k j i h g f e d c b a"),
@@ -119,9 +112,9 @@ const GRAPH_LINES: [(Line<'static>, Want); 27] = [
     (Line::Held(b"e 1 2 r\x7f"), Refused(Code::Label)),
 ];
 
-const UPDATE_LINES: [(Line<'static>, Want); 14] = [
-    (Line::Held(b"-e 7 9 knows"), NoEdge(7, 9, b"knows")),
-    (Line::Held(b"e 1 2 r"), Edge(1, 2, b"r")),
+const UPDATE_LINES: [Row; 14] = [
+    (Line::Held(b"-e 7 9 knows"), NoEdge(7, 9, "knows")),
+    (Line::Held(b"e 1 2 r"), Edge(1, 2, "r")),
     (Line::Held(b"-v 12"), NoVertex(12)),
     (Line::Held(b""), Nothing),
     (Line::Held(b" \t "), Nothing),
@@ -136,10 +129,10 @@ const UPDATE_LINES: [(Line<'static>, Want); 14] = [
     (Line::Held(b"-v -1"), Refused(Code::Number)),
 ];
 
-const PATTERN_LINES: [(Line<'static>, Want); 14] = [
-    (Line::Held(b"p ab iso"), Name(b"ab", Mode::Iso)),
-    (Line::Held(b"v 3 A"), Vertex(3, &[b"A"])),
-    (Line::Held(b"e 0 31 r"), Edge(0, 31, b"r")),
+const PATTERN_LINES: [Row; 14] = [
+    (Line::Held(b"p ab iso"), Name("ab", Mode::Iso)),
+    (Line::Held(b"v 3 A"), Vertex(3, &["A"])),
+    (Line::Held(b"e 0 31 r"), Edge(0, 31, "r")),
     (Line::Held(b""), Nothing),
     (Line::Held(b" \t "), Nothing),
     (Line::Held(b"# note"), Nothing),
@@ -153,29 +146,62 @@ const PATTERN_LINES: [(Line<'static>, Want); 14] = [
     (Line::Held(b"p a any"), Refused(Code::Mode)),
 ];
 
+/// How many lines of a graph file, from the first on, say what they should.
+fn count_graph_lines(alloc: Global, rows: &[Row]) -> Result<usize, AllocError> {
+    for i in 0..rows.len() {
+        let (line, want) = rows[i];
+        if !says_update(&read_graph_line(alloc, &line)?, &want) {
+            return Ok(i);
+        }
+    }
+    Ok(rows.len())
+}
+
 #[test]
 fn graph_lines(rt: HostRuntime) -> Result<(), Fail> {
-    for (i, (line, want)) in GRAPH_LINES.iter().enumerate() {
-        let said = read_graph_line(rt.alloc(), line)?;
-        assert!(rt; says_update(&said, want), "row {i}");
-    }
+    assert_eq!(rt;
+        count_graph_lines(rt.alloc(), &GRAPH_LINES)?,
+        GRAPH_LINES.len()
+    );
     Ok(())
+}
+
+/// How many lines of the updates, from the first on, say what they should.
+fn count_update_lines(alloc: Global, rows: &[Row]) -> Result<usize, AllocError> {
+    for i in 0..rows.len() {
+        let (line, want) = rows[i];
+        if !says_update(&read_update_line(alloc, &line)?, &want) {
+            return Ok(i);
+        }
+    }
+    Ok(rows.len())
 }
 
 #[test]
 fn update_lines(rt: HostRuntime) -> Result<(), Fail> {
-    for (i, (line, want)) in UPDATE_LINES.iter().enumerate() {
-        let said = read_update_line(rt.alloc(), line)?;
-        assert!(rt; says_update(&said, want), "row {i}");
-    }
+    assert_eq!(rt;
+        count_update_lines(rt.alloc(), &UPDATE_LINES)?,
+        UPDATE_LINES.len()
+    );
     Ok(())
+}
+
+/// How many lines of a pattern file, from the first on, say what they should.
+fn count_pattern_lines(alloc: Global, rows: &[Row]) -> Result<usize, AllocError> {
+    for i in 0..rows.len() {
+        let (line, want) = rows[i];
+        if !says_part(&read_pattern_line(alloc, &line)?, &want) {
+            return Ok(i);
+        }
+    }
+    Ok(rows.len())
 }
 
 #[test]
 fn pattern_lines(rt: HostRuntime) -> Result<(), Fail> {
-    for (i, (line, want)) in PATTERN_LINES.iter().enumerate() {
-        let said = read_pattern_line(rt.alloc(), line)?;
-        assert!(rt; says_part(&said, want), "row {i}");
-    }
+    assert_eq!(rt;
+        count_pattern_lines(rt.alloc(), &PATTERN_LINES)?,
+        PATTERN_LINES.len()
+    );
     Ok(())
 }
