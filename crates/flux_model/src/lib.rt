@@ -34,8 +34,6 @@ mod said;
 mod sorting;
 mod state;
 mod steps;
-#[cfg(test)]
-mod tests;
 mod text;
 mod tree;
 

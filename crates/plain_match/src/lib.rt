@@ -10,6 +10,3 @@ mod search;
 
 pub use graph::PlainGraph;
 pub use search::plain_all;
-
-#[cfg(test)]
-mod tests;

@@ -4,14 +4,11 @@
 //!
 //! - `join_rows`: what is asked of one candidate of a search.
 //! - `search_rows`: all embeddings over graphs that change line by line. `finds`: the searches that it makes.
-//! - `map_rows`: maps and deltas, as they are found and sorted.
 #![tactic(auto)]
 
 #[cfg(test)]
 mod finds;
 #[cfg(test)]
 mod join_rows;
-#[cfg(test)]
-mod map_rows;
 #[cfg(test)]
 mod search_rows;
