@@ -4,14 +4,14 @@
 //!
 //! - `line_rows`: what a line of each kind of file says.
 //! - `pattern_rows`: pattern files, line by line.
-//! - `report_rows`: the blocks and listings of a report. `graph_rows`: the one text of a graph.
+//! - `report_rows`: the blocks and listings of a report. `snapshot_rows`: the one text of a graph.
 #![tactic(auto)]
 
-#[cfg(test)]
-mod graph_rows;
 #[cfg(test)]
 mod line_rows;
 #[cfg(test)]
 mod pattern_rows;
 #[cfg(test)]
 mod report_rows;
+#[cfg(test)]
+mod snapshot_rows;
