@@ -176,8 +176,8 @@ pub fn shelf_of(alloc: Global, row: &Run) -> Result<MemShelf, AllocError> {
 
 /// A shelf with the two files of a run.
 pub fn files_of(alloc: Global, row: &Run) -> Result<MemShelf, AllocError>
-    ensures graph { IfOk result (λ shelf. bytes_of shelf.entries (codes "g") ≡ Some row.now.graph) }
-    ensures patterns { IfOk result (λ shelf. bytes_of shelf.entries (codes "p") ≡ Some row.now.patterns) }
+    ensures graph { IfOk result (λ shelf. bytes_of shelf.entries (codes "g") ≡ Some row.now.graph.now) }
+    ensures patterns { IfOk result (λ shelf. bytes_of shelf.entries (codes "p") ≡ Some row.now.patterns.now) }
 {
     let mut shelf = MemShelf::with_seed(alloc, row.seed);
     shelf.add("g", row.graph.as_bytes())?;
