@@ -27,13 +27,14 @@ fn slow_report(alloc: Global, files: &Made) -> Result<Vec<u8>, Unmade> {
     slow_lines(alloc, &mut slow, files.updates())
 }
 
-/// What the slow way writes of the ended lines of the updates.
+/// What the slow way writes of the lines of the updates, each of which has an end.
 fn slow_lines(alloc: Global, slow: &mut SlowWatch, updates: &[u8]) -> Result<Vec<u8>, Unmade> {
     let mut report = Vec::new(alloc);
-    let mut rest = updates;
-    while let Some(at) = rest.iter().position(|byte| *byte == b'\n') {
-        slow.line(&rest[..at], &mut report)?;
-        rest = &rest[at + 1..];
+    let Some((_, lines)) = updates.split_last() else {
+        return Err(Unmade::Silent);
+    };
+    for line in lines.split(|byte| *byte == b'\n') {
+        slow.line(line, &mut report)?;
     }
     slow.end(&mut report)?;
     Ok(report)
