@@ -129,9 +129,11 @@ fn is_right(alloc: Global, case: &Case) -> Result<bool, AllocError> {
     let mut out = MemSink::new(alloc, case.room)?;
     let mut err = MemSink::new(alloc, 99)?;
     let status = show(alloc, case.number, case.seed, &mut out, &mut err)?;
-    Ok(status == case.status
-        && *out.bytes() == *case.out.as_bytes()
-        && *err.bytes() == *case.err.as_bytes())
+    Ok(
+        status == case.status
+            && *out.bytes() == *case.out.as_bytes()
+            && *err.bytes() == *case.err.as_bytes(),
+    )
 }
 
 /// How many cases, from the first on, are right.
@@ -149,10 +151,12 @@ fn is_largest_shown(alloc: Global) -> Result<bool, AllocError> {
     let mut out = MemSink::new(alloc, 999)?;
     let mut err = MemSink::new(alloc, 99)?;
     let status = show(alloc, "18446744073709551615", 0, &mut out, &mut err)?;
-    Ok(status == Status::Done
-        && out
-            .bytes()
-            .starts_with(b"demo 18446744073709551615\ngraph 20000 "))
+    Ok(
+        status == Status::Done
+            && out
+                .bytes()
+                .starts_with(b"demo 18446744073709551615\ngraph 20000 "),
+    )
 }
 
 #[test]
