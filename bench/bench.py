@@ -9,15 +9,16 @@ order that turns from round to round.  `cpu` is user + system time of the comman
 time until the first update line is answered, `update us` the CPU time after that per update line
 and `wall us` the wall time after that per update line; RSS is the greatest resident set.  Numbers
 are medians over the rounds; a ratio is the median of the rounds' own ratios program / peer.  With --instructions, valgrind counts instructions (once, on the
-small size unless --size tiny), which do not depend on the machine's load.
+small size unless --size tiny), which do not depend on the machine's load; all runs hash from one seed.
 Exit status 1 where some finished output differs from another.  Without --program only the peers.
 """
-import argparse, hashlib, json, os, re, shlex, subprocess, sys, tempfile, threading, time
+import argparse, hashlib, json, os, shlex, subprocess, sys, tempfile, threading, time
 from statistics import median
 
 HERE = os.path.dirname(os.path.abspath(__file__))
 sys.path.insert(0, HERE)
 import workloads  # noqa: E402
+from one_seed import OneSeed, SEED  # noqa: E402
 
 CXX = {
     "indexed": ("indexed.cpp", "g++"), "joins": ("joins.cpp", "g++"),
@@ -93,14 +94,6 @@ def run(cmd, base, updates, out, timeout):
             "rss": int(open(out + ".rss").read().split()[-1])}
 
 
-def count_instructions(cmd, base, updates):
-    x = subprocess.run(["valgrind", "--tool=cachegrind", "--cache-sim=no", "--cachegrind-out-file=/dev/null"] + cmd +
-                       ["watch", base + ".graph", base + ".patterns"], stdin=open(updates, "rb"),
-                       stdout=subprocess.DEVNULL, stderr=subprocess.PIPE)
-    m = re.search(rb"I\s+refs:\s+([\d,]+)", x.stderr)
-    return int(m.group(1).replace(b",", b"")) if m else None
-
-
 def digest(path):
     h = hashlib.sha256()
     with open(path, "rb") as f:
@@ -145,6 +138,7 @@ def main():
     empty = os.path.join(a.dir, "empty")
     os.makedirs(a.dir, exist_ok=True)
     open(empty, "w").close()
+    seeds = OneSeed(a.dir) if a.instructions else None
     for wl in a.workloads.split(","):
         base = workloads.ensure(os.path.join(a.dir, "data"), wl, a.size)
         ups = open(base + ".updates", "rb").read()
@@ -189,8 +183,8 @@ def main():
             gl = sum(1 for _ in open(b + ".graph", "rb"))
             got = {}
             for k in names:
-                i0 = count_instructions(runners[k], b, empty)
-                i1 = count_instructions(runners[k], b, b + ".updates")
+                words = runners[k] + ["watch", b + ".graph", b + ".patterns"]
+                i0, i1 = (seeds.instructions(words, SEED, lines) for lines in (empty, b + ".updates"))
                 if i0 and i1:
                     got[k] = (i0, (i1 - i0) / m)
             data[f"{wl}.{a.size}"]["instructions"] = {k: {"size": size, "start": x, "update": y} for k, (x, y) in got.items()}
@@ -210,4 +204,5 @@ def main():
     return bad
 
 
-sys.exit(main())
+if __name__ == "__main__":
+    sys.exit(main())

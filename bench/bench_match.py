@@ -14,7 +14,6 @@ import argparse
 import hashlib
 import json
 import os
-import re
 import statistics
 import subprocess
 import sys
@@ -23,6 +22,7 @@ import tempfile
 HERE = os.path.dirname(os.path.abspath(__file__))
 sys.path.insert(0, HERE)
 import workloads as W
+from one_seed import OneSeed, SEED
 
 
 def run(words, stdin=None, times=False):
@@ -46,13 +46,6 @@ def run(words, stdin=None, times=False):
         err.seek(0)
         return dict(status=p.returncode, user=r.ru_utime * 1e3, sys=r.ru_stime * 1e3, rss=rss / 1024,
                     md5=h.hexdigest(), bytes=n, lines=lines, err=err.read().decode(errors="replace"))
-
-
-def instructions(words):
-    with tempfile.TemporaryDirectory() as d:
-        e = subprocess.run(["valgrind", "--tool=callgrind", f"--callgrind-out-file={d}/o", *words],
-                           stdout=subprocess.DEVNULL, stderr=subprocess.PIPE, text=True).stderr
-    return int(re.search(r"Collected : (\d+)", e)[1])
 
 
 def made(dirname, edges):
@@ -87,6 +80,7 @@ def main():
     src = [os.path.join(HERE, f) for f in ("match_all.cpp", "indexed.cpp", "csm.hpp")]
     if not os.path.exists(peer) or any(os.path.getmtime(s) > os.path.getmtime(peer) for s in src):
         subprocess.run(["g++", "-O2", "-std=c++17", "-o", peer, src[0]], check=True)
+    seeds = OneSeed(a.dir) if a.instructions else None
     prog = a.program.split()
     cases = [made(a.dir, int(e)) for e in a.made.split(",") if e] if a.made else [
         W.ensure(a.dir, n, s) for n in a.workloads.split(",") for s in a.sizes.split(",")]
@@ -113,7 +107,7 @@ def main():
             for s in sides:
                 m = lambda k: statistics.median(x[k] for x in got[s])
                 ratio = statistics.median(x["user"] / max(y["user"], 0.5) for x, y in zip(got["program"], got[s]))
-                count = instructions(sides[s]) if a.instructions and s != "sort -u" else None
+                count = seeds.instructions(sides[s], SEED) if a.instructions and s != "sort -u" else None
                 ins = f"  instructions {count / 1e6:.1f} M" if count else ""
                 data.setdefault(os.path.basename(base), {}).setdefault(shape, {})[s] = {
                     "lines": lines, "user": m("user"), "rss": m("rss"), "ratio": ratio, "instructions": count}

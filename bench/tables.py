@@ -16,8 +16,8 @@ sys.dont_write_bytecode = True
 HERE = os.path.dirname(os.path.realpath(__file__))
 sys.path.insert(0, HERE)
 import workloads  # noqa: E402
+from page import put, row  # noqa: E402
 
-PAGE = os.path.join(os.path.dirname(HERE), "docs", "PERFORMANCE.md")
 BEGIN, END = "<!-- tables: made by bench/tables.py -->\n", "<!-- end of tables -->\n"
 
 
@@ -26,10 +26,6 @@ def measured(tool, *words):
     with tempfile.NamedTemporaryFile("r") as file:
         subprocess.run([sys.executable, os.path.join(HERE, tool), *words, "--json", file.name], check=True, stdout=sys.stderr)
         return json.load(file)
-
-
-def row(*cells):
-    return "| " + " | ".join(cells) + " |\n"
 
 
 def number(x):
@@ -120,11 +116,7 @@ def main():
     asked = parser.parse_args()
     with tempfile.TemporaryDirectory() as folder:
         text = "".join(section(os.path.abspath(asked.program), asked.workloads.split(","), asked.rounds, folder))
-    with open(PAGE, encoding="utf-8") as file:
-        before, _, rest = file.read().partition(BEGIN)
-    _, _, after = rest.partition(END)
-    with open(PAGE, "w", encoding="utf-8") as file:
-        file.write(before + BEGIN + text + "\n" + END + after)
+    put(BEGIN, END, text)
 
 
 if __name__ == "__main__":
