@@ -1,9 +1,16 @@
 //! The hashed look-ups of a store, which start from its seed.
+ghost use Rattle.std.specs.Prelude.{◌≡◌, ◌<◌, IsPermutation, OnOk};
+ghost use Rattle.std.specs.HashMap.{spare};
+ghost use Rattle.std.specs.Map.{lookup};
+ghost use Rattle.label_graph.specs.Places.{link_eq};
+ghost use Rattle.label_graph.specs.declared.link.Link.{Link};
+
 use crate::chain::Chain;
 use crate::row::Place;
 use indexmap::IndexMap;
 use label_graph::link::{Link, Node, Places};
 use seeded_hash::SeededState;
+use std::alloc::AllocError;
 use std::collections::HashMap;
 
 /// What is kept of each vertex, by its id, in the store's own order.
@@ -11,3 +18,24 @@ pub type Nodes = IndexMap<u32, Node<Chain>, SeededState>;
 
 /// Where each triple stands in the rows of its ends.
 pub type Standing = HashMap<Link, Places<Place>, SeededState>;
+
+/// Makes room for a triple more.
+///
+/// A triple that goes may leave a mark in its place, and a table that triples and marks fill is built anew at twice its size. Where
+/// marks were a quarter of it or more, it is made as large as it was again: so it does not grow with a stream that leaves as many
+/// triples as there were.
+pub fn make_place(places: &mut Standing) -> Result<(), AllocError>
+    ensures entries { IsPermutation places.old.entries places.new.entries }
+    ensures found { (k : Link) → lookup (link_eq k) places.new.entries ≡ lookup (link_eq k) places.old.entries }
+    ensures room { OnOk result (0 < spare places.new) }
+{
+    if places.len() < places.capacity() {
+        return Ok(());
+    }
+    places.reserve(1)?;
+    let doubled = places.capacity();
+    if places.len() < doubled / 8 * 3 {
+        places.shrink_to(doubled / 2);
+    }
+    Ok(())
+}

@@ -13,7 +13,7 @@ ghost use Rattle.block_graph.specs.Rows.{at, row_of};
 
 use crate::block::Blocks;
 use crate::chain::chain_of_member;
-use crate::hashed::{Nodes, Standing};
+use crate::hashed::{Nodes, Standing, make_place};
 use crate::place::note;
 use crate::row::{Place, pull, push};
 use label_graph::link::{Link, Member, Node, Places, RowEntry};
@@ -148,7 +148,7 @@ pub fn join(
         id: k.dst,
         index: dst,
     };
-    places.reserve(1)?;
+    make_place(places)?;
     make_room(nodes, blocks, source, target)?;
     let out_at = push(
         nodes,
