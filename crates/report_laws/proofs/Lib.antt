@@ -1,0 +1,5 @@
+pub mod BetweenLemmas
+pub mod CounterExamples
+pub mod FilePartLemmas
+pub mod MergedLemmas
+pub mod StreamsLemmas

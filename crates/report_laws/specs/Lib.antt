@@ -1,0 +1,3 @@
+pub mod DividedLaws
+pub mod ReportText
+pub mod StreamsLaws
