@@ -4,7 +4,7 @@ ghost use Rattle.std.specs.Map.{lookup, keys_of};
 ghost use Rattle.label_graph.specs.Places.{vertex_of, IsAt};
 ghost use Rattle.block_graph.specs.Chains.{chain_at, with_chain};
 
-use crate::hashed::Nodes;
+use crate::hashed::{Nodes, node_of};
 use label_graph::link::{Member, Node};
 
 /// The blocks of a row: the key of the first, and how many they are.
@@ -19,7 +19,7 @@ pub fn chain_of_row(nodes: &Nodes, v: u32, incoming: bool) -> Chain
     requires { IsSome (lookup (nat_eq v) nodes.now.entries) }
     ensures { result ≡ chain_at nodes.now.entries (incoming, v) }
 {
-    let node = &nodes[&v];
+    let node = node_of(nodes, v);
     if incoming { node.ins } else { node.outs }
 }
 

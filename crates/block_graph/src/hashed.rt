@@ -1,5 +1,5 @@
 //! The hashed look-ups of a store, which start from its seed.
-ghost use Rattle.std.specs.Prelude.{◌≡◌, ◌<◌, IsPermutation, OnOk};
+ghost use Rattle.std.specs.Prelude.{◌≡◌, ◌<◌, Some, nat_eq, IsPermutation, IsSome, OnOk};
 ghost use Rattle.std.specs.HashMap.{spare};
 ghost use Rattle.std.specs.Map.{lookup};
 ghost use Rattle.label_graph.specs.Places.{link_eq};
@@ -18,6 +18,21 @@ pub type Nodes = IndexMap<u32, Node<Chain>, SeededState>;
 
 /// Where each triple stands in the rows of its ends.
 pub type Standing = HashMap<Link, Places<Place>, SeededState>;
+
+/// What is kept of the vertex `v`, which has to be there.
+///
+/// Where ids were given in order, from 0 on, each stands at its own number, and is found without a hash.
+pub fn node_of(nodes: &Nodes, v: u32) -> &Node<Chain>
+    requires { IsSome (lookup (nat_eq v) nodes.now.entries) }
+    ensures { lookup (nat_eq v) nodes.now.entries ≡ Some result.now }
+{
+    if let Some((id, node)) = nodes.get_index(v as usize) {
+        if *id == v {
+            return node;
+        }
+    }
+    &nodes[&v]
+}
 
 /// Makes room for a triple more.
 ///

@@ -4,7 +4,7 @@ ghost use Rattle.std.specs.Map.{lookup};
 ghost use Rattle.block_graph.specs.Chains.{chain_at, no_chain};
 
 use crate::chain::Chain;
-use crate::hashed::Nodes;
+use crate::hashed::{Nodes, node_of};
 use crate::links::{join, part};
 use crate::store::BlockGraph;
 use flux_model::{Code, Labels, Triple};
@@ -20,7 +20,7 @@ fn has_entries(nodes: &Nodes, v: u32) -> bool
     ensures { result ≡ (nat_lt 0 (chain_at nodes.now.entries (false, v)).blocks
         || nat_lt 0 (chain_at nodes.now.entries (true, v)).blocks) }
 {
-    let node = &nodes[&v];
+    let node = node_of(nodes, v);
     node.outs.blocks > 0 || node.ins.blocks > 0
 }
 

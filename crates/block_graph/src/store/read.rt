@@ -5,6 +5,7 @@ ghost use Rattle.flux_model.specs.Graph.{has_vertex};
 ghost use Rattle.block_graph.specs.Meaning.{graph_in, row_left, IsPlaceIn, IsEntryIn};
 
 use crate::chain::Chain;
+use crate::hashed::node_of;
 use crate::store::BlockGraph;
 use flux_model::{Labels, Ledger, Steps, Text};
 use graph_traits::{ReadGraph, Spot, Turn};
@@ -23,7 +24,7 @@ impl BlockGraph {
         requires { IsTrue (has_vertex (graph_in self.now) v) }
         ensures { lookup (nat_eq v) self.now.nodes.entries ≡ Some result.now }
     {
-        &self.nodes[&v]
+        node_of(&self.nodes, v)
     }
 
     /// The entry at a place of a row of the vertex, or `None` at the row's end.

@@ -23,12 +23,19 @@ pub fn lacks_room(limit: u64, count: usize, name_limit: u64, names: usize, more:
 }
 
 /// Where `v` stands among the vertices, if it does.
+///
+/// Where ids were given in order, from 0 on, each stands at its own number, and is found without a hash.
 pub fn index_of<R>(nodes: &IndexMap<u32, Node<R>, SeededState>, v: u32) -> Option<usize>
 where
     R: Drop,
     ensures at { IfSome result (λ i. slice_get (keys_of nodes.now.entries) i ≡ Some v) }
     ensures stands { is_some (lookup (nat_eq v) nodes.now.entries) ≡ is_some result }
 {
+    if let Some((id, _)) = nodes.get_index(v as usize) {
+        if *id == v {
+            return Some(v as usize);
+        }
+    }
     nodes.get_index_of(&v)
 }
 
