@@ -11,8 +11,8 @@ use std::alloc::Global;
 use std::test::Fail;
 use worked_parts::shapes::{CHAIN, HOOK, RING, TRIANGLE};
 use worked_parts::{
-    Parts, Unmade, add_classes, are_maps, are_same, first, graph_of, patterns_of, tree_of,
-    triple_of, update_of,
+    Parts, Unmade, add_classes, are_maps, are_same, block_graph_of, first, graph_of, patterns_of,
+    tree_of, triple_of, update_of,
 };
 
 /// A line of updates by which a triple comes or goes.
@@ -206,19 +206,30 @@ fn are_classes<G: ReadGraph<Tally>>(
     Ok(are_maps(&changed, row.changed) && are_same(&all, &with))
 }
 
-/// Whether the classes of a row are as they should be.
-fn is_right(alloc: Global, row: &Row) -> Result<bool, Unmade> {
-    let graph = graph_of(alloc, row.with)?;
+/// Whether the classes of a row are as they should be, over a store of the graph with the triple.
+fn is_right_over<G: ReadGraph<Tally>>(alloc: Global, graph: &G, row: &Row) -> Result<bool, Unmade> {
     let patterns = patterns_of(alloc, row.pattern)?;
     let pattern = first(&patterns)?;
     let tree = tree_of(alloc, pattern, row.edges, row.vertices)?;
-    are_classes(alloc, pattern, &tree, &graph, row)
+    are_classes(alloc, pattern, &tree, graph, row)
+}
+
+/// Whether it is so over the store of hashed triples.
+fn is_right_in_labels(alloc: Global, row: &Row) -> Result<bool, Unmade> {
+    let graph = graph_of(alloc, row.with)?;
+    is_right_over(alloc, &graph, row)
+}
+
+/// Whether it is so over the store of blocks.
+fn is_right_in_blocks(alloc: Global, row: &Row) -> Result<bool, Unmade> {
+    let graph = block_graph_of(alloc, row.with)?;
+    is_right_over(alloc, &graph, row)
 }
 
 /// How many rows, from the first on, are as they should be.
 fn count_right(alloc: Global, rows: &[Row]) -> Result<usize, Unmade> {
     for i in 0..rows.len() {
-        if !is_right(alloc, &rows[i])? {
+        if !is_right_in_labels(alloc, &rows[i])? || !is_right_in_blocks(alloc, &rows[i])? {
             return Ok(i);
         }
     }

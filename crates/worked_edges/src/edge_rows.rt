@@ -10,7 +10,8 @@ use std::test::Fail;
 use tree_search::at_edge;
 use worked_parts::shapes::{BOTH, CHAIN, HOOK, TRIANGLE};
 use worked_parts::{
-    Parts, Unmade, are_maps, first, graph_of, insert, patterns_of, tree_of, triple_of,
+    Parts, Unmade, are_maps, block_graph_of, first, graph_of, insert, patterns_of, tree_of,
+    triple_of,
 };
 
 const ISO_CHAIN: &str = "p chain iso\nv 0\nv 1\nv 2\ne 0 1 r\ne 1 2 r";
@@ -221,21 +222,36 @@ fn is_right_over<G: ReadGraph<Tally>>(
     is_class(alloc, pattern, &tree, graph, row)
 }
 
+/// Whether it is so over the store of hashed triples.
+fn is_right_in_labels(alloc: Global, row: &Class) -> Result<bool, Unmade> {
+    let graph = graph_of(alloc, row.graph)?;
+    is_right_over(alloc, &graph, row)
+}
+
+/// Whether it is so over the store of blocks.
+fn is_right_in_blocks(alloc: Global, row: &Class) -> Result<bool, Unmade> {
+    let graph = block_graph_of(alloc, row.graph)?;
+    is_right_over(alloc, &graph, row)
+}
+
 /// How many rows, from the first on, are as they should be.
 fn count_right(alloc: Global, rows: &[Class]) -> Result<usize, Unmade> {
     for i in 0..rows.len() {
-        if !is_right_over(alloc, &graph_of(alloc, rows[i].graph)?, &rows[i])? {
+        if !is_right_in_labels(alloc, &rows[i])? || !is_right_in_blocks(alloc, &rows[i])? {
             return Ok(i);
         }
     }
     Ok(rows.len())
 }
 
-/// Whether the class of a row over the graph with a hub is as it should be.
-fn is_right_at_hub(alloc: Global, row: &Class) -> Result<bool, Unmade> {
-    let mut graph = graph_of(alloc, row.graph)?;
-    add_spokes(alloc, &mut graph)?;
-    is_right_over(alloc, &graph, row)
+/// Whether the class of a row over a store of its graph, to which the hub is added, is as it should be.
+fn is_right_at_hub<G: KeepGraph + ReadGraph<Tally>>(
+    alloc: Global,
+    graph: &mut G,
+    row: &Class,
+) -> Result<bool, Unmade> {
+    add_spokes(alloc, graph)?;
+    is_right_over(alloc, graph, row)
 }
 
 #[test]
@@ -246,6 +262,9 @@ fn embeddings_that_send_an_edge_to_a_triple(rt: HostRuntime) -> Result<(), Fail>
 
 #[test]
 fn at_a_hub_the_few_vertices_of_the_index_are_walked(rt: HostRuntime) -> Result<(), Fail> {
-    assert!(rt; is_right_at_hub(rt.alloc(), &AT_HUB)?);
+    let mut in_labels = graph_of(rt.alloc(), AT_HUB.graph)?;
+    assert!(rt; is_right_at_hub(rt.alloc(), &mut in_labels, &AT_HUB)?);
+    let mut in_blocks = block_graph_of(rt.alloc(), AT_HUB.graph)?;
+    assert!(rt; is_right_at_hub(rt.alloc(), &mut in_blocks, &AT_HUB)?);
     Ok(())
 }

@@ -9,7 +9,8 @@ use std::alloc::Global;
 use std::test::Fail;
 use tree_search::at_edge;
 use worked_parts::{
-    Parts, Unmade, are_maps, first, graph_of, insert, patterns_of, tree_of, triple_of,
+    Parts, Unmade, are_maps, block_graph_of, first, graph_of, insert, patterns_of, tree_of,
+    triple_of,
 };
 
 /// Two edges from a vertex, and one from the head of the first to that of the second.
@@ -91,20 +92,38 @@ fn is_near<G: ReadGraph<Tally>>(
     Ok(are_maps(&maps, &[&[1, 2, 3]]) && steps.ledger().read() < 20)
 }
 
-/// Whether a search over a fan is as it should be.
-fn is_right(alloc: Global, fan: &Fan) -> Result<bool, Unmade> {
-    let mut graph = graph_of(alloc, "v 1\nv 2\ne 1 2 r")?;
-    add_fan(alloc, &mut graph, fan.between)?;
+/// The graph before a fan is added.
+const HEAD: &str = "v 1\nv 2\ne 1 2 r";
+
+/// Whether a search over a fan, which is added to a store of its head, is as it should be.
+fn is_right_over<G: KeepGraph + ReadGraph<Tally>>(
+    alloc: Global,
+    graph: &mut G,
+    fan: &Fan,
+) -> Result<bool, Unmade> {
+    add_fan(alloc, graph, fan.between)?;
     let patterns = patterns_of(alloc, fan.pattern)?;
     let pattern = first(&patterns)?;
     let tree = tree_of(alloc, pattern, &[1, 1, 2], &[1, 1, 1])?;
-    is_near(alloc, pattern, &tree, &graph, fan)
+    is_near(alloc, pattern, &tree, graph, fan)
+}
+
+/// Whether it is so over the store of hashed triples.
+fn is_right_in_labels(alloc: Global, fan: &Fan) -> Result<bool, Unmade> {
+    let mut graph = graph_of(alloc, HEAD)?;
+    is_right_over(alloc, &mut graph, fan)
+}
+
+/// Whether it is so over the store of blocks.
+fn is_right_in_blocks(alloc: Global, fan: &Fan) -> Result<bool, Unmade> {
+    let mut graph = block_graph_of(alloc, HEAD)?;
+    is_right_over(alloc, &mut graph, fan)
 }
 
 /// How many fans, from the first on, are as they should be.
 fn count_right(alloc: Global, fans: &[Fan]) -> Result<usize, Unmade> {
     for i in 0..fans.len() {
-        if !is_right(alloc, &fans[i])? {
+        if !is_right_in_labels(alloc, &fans[i])? || !is_right_in_blocks(alloc, &fans[i])? {
             return Ok(i);
         }
     }

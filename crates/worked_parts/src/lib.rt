@@ -19,6 +19,6 @@ pub use classes::add_classes;
 pub use labels::are_labels;
 pub use maps::{are_maps, are_same};
 pub use states::{has_live_counts, has_states};
-pub use texts::{first, graph_of, patterns_of, tree_of, update_of};
+pub use texts::{block_graph_of, first, graph_of, patterns_of, tree_of, update_of};
 pub use triples::{Parts, insert, text_of, triple_of};
 pub use unmade::Unmade;

@@ -1,18 +1,22 @@
 //! Graphs, patterns, updates and trees, made of short texts.
 ghost use Rattle.std.specs.Prelude.{◌≡◌, Ok, Some, IfOk, slice_get};
 ghost use Rattle.flux_model.specs.Lines.{held};
+ghost use Rattle.flux_model.specs.Graph.{empty_graph};
 ghost use Rattle.flux_model.specs.Limits.{standard};
 ghost use Rattle.flux_model.specs.Reading.{update_reading};
 ghost use Rattle.flux_model.specs.Tree.{BelongsTo, tree_for};
 ghost use Rattle.flux_model.specs.Verdict.{graph_file, pattern_file};
 ghost use Rattle.flux_model.specs.declared.said.Said.TheVariants.{Says};
 ghost use Rattle.flux_outside.specs.MemShelf.{bytes_of};
-ghost use Rattle.label_graph.specs.Meaning.{graph_in};
+ghost use Rattle.block_graph.specs.Meaning.{graph_in as graph_in_blocks};
+ghost use Rattle.label_graph.specs.Meaning.{graph_in as graph_in_labels};
 
 use crate::unmade::Unmade;
+use block_graph::BlockGraph;
 use file_reading::{read_patterns, read_store};
 use flux_model::{Cards, Limits, Line, Pattern, Patterns, Said, Update};
 use flux_outside::MemShelf;
+use graph_traits::KeepGraph;
 use label_graph::LabelGraph;
 use line_grammar::read_update_line;
 use query_tree::QueryTree;
@@ -30,15 +34,30 @@ fn shelf_of(alloc: Global, name: &str, text: &str) -> Result<MemShelf, AllocErro
     Ok(shelf)
 }
 
-/// The graph that a graph file of this text is accepted as.
-pub fn graph_of(alloc: Global, text: &str) -> Result<LabelGraph, Unmade>
-    ensures { IfOk result (λ graph. graph_file standard (Some text.now) ≡ Ok (graph_in graph)) }
+/// The store, which was empty, with the graph that a graph file of this text is accepted as.
+fn graph_in<G: KeepGraph>(alloc: Global, text: &str, empty: G) -> Result<G, Unmade>
+    requires limits { G.limits empty ≡ standard }
+    requires empty { G.graph empty ≡ empty_graph }
+    ensures { IfOk result (λ graph. graph_file standard (Some text.now) ≡ Ok (G.graph graph)) }
 {
     let limits = Limits::standard();
     let mut shelf = shelf_of(alloc, NAME, text)?;
-    let empty = LabelGraph::new(alloc, &limits);
     let graph = read_store(alloc, &limits, &mut shelf, NAME, empty)?;
     Ok(graph)
+}
+
+/// The graph that a graph file of this text is accepted as, in a store of hashed triples.
+pub fn graph_of(alloc: Global, text: &str) -> Result<LabelGraph, Unmade>
+    ensures { IfOk result (λ graph. graph_file standard (Some text.now) ≡ Ok (graph_in_labels graph)) }
+{
+    graph_in(alloc, text, LabelGraph::new(alloc, &Limits::standard()))
+}
+
+/// The same graph, in a store of blocks.
+pub fn block_graph_of(alloc: Global, text: &str) -> Result<BlockGraph, Unmade>
+    ensures { IfOk result (λ graph. graph_file standard (Some text.now) ≡ Ok (graph_in_blocks graph)) }
+{
+    graph_in(alloc, text, BlockGraph::new(alloc, &Limits::standard()))
 }
 
 /// The patterns that a pattern file of this text is accepted as.

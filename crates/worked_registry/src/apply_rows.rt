@@ -8,7 +8,7 @@ use pattern_registry::Registry;
 use std::alloc::{AllocError, Global};
 use std::test::Fail;
 use worked_parts::shapes::TRIANGLE;
-use worked_parts::{Unmade, are_maps, graph_of, patterns_of, update_of};
+use worked_parts::{Unmade, are_maps, block_graph_of, graph_of, patterns_of, update_of};
 
 /// Lists of ids, in ascending order.
 type Lists = &'static [&'static [u32]];
@@ -100,13 +100,28 @@ const ROWS: [Row; 5] = [
     },
 ];
 
-/// Whether the registry of a row answers each of its lines as it should.
-fn is_right(alloc: Global, row: &Row) -> Result<bool, Unmade> {
-    let mut graph = graph_of(alloc, row.graph)?;
+/// Whether the registry of a row answers each of its lines as it should, over a store of its graph.
+fn is_right_over<G: KeepGraph + ReadGraph<Tally>>(
+    alloc: Global,
+    graph: &mut G,
+    row: &Row,
+) -> Result<bool, Unmade> {
     let patterns = patterns_of(alloc, row.patterns)?;
     let mut steps = Steps::new(Tally::new());
-    let mut registry = Registry::start(alloc, patterns, &graph, &mut steps)?;
-    takes_each(alloc, &mut registry, &mut graph, row.turns, &mut steps)
+    let mut registry = Registry::start(alloc, patterns, graph, &mut steps)?;
+    takes_each(alloc, &mut registry, graph, row.turns, &mut steps)
+}
+
+/// Whether it is so over the store of hashed triples.
+fn is_right_in_labels(alloc: Global, row: &Row) -> Result<bool, Unmade> {
+    let mut graph = graph_of(alloc, row.graph)?;
+    is_right_over(alloc, &mut graph, row)
+}
+
+/// Whether it is so over the store of blocks.
+fn is_right_in_blocks(alloc: Global, row: &Row) -> Result<bool, Unmade> {
+    let mut graph = block_graph_of(alloc, row.graph)?;
+    is_right_over(alloc, &mut graph, row)
 }
 
 /// Lets the registry take the update of each line: whether it answers so, and is whole behind the last.
@@ -186,7 +201,7 @@ fn are_changes(deltas: &Deltas, changes: &[Change]) -> bool {
 /// How many rows, from the first on, are as they should be.
 fn count_right(alloc: Global, rows: &[Row]) -> Result<usize, Unmade> {
     for i in 0..rows.len() {
-        if !is_right(alloc, &rows[i])? {
+        if !is_right_in_labels(alloc, &rows[i])? || !is_right_in_blocks(alloc, &rows[i])? {
             return Ok(i);
         }
     }

@@ -8,7 +8,7 @@ use pattern_registry::Registry;
 use std::alloc::{AllocError, Global};
 use std::test::Fail;
 use worked_parts::shapes::{LABELLED_CHAIN, TRIANGLE};
-use worked_parts::{Unmade, are_maps, graph_of, patterns_of};
+use worked_parts::{Unmade, are_maps, block_graph_of, graph_of, patterns_of};
 
 /// A pattern, and the lists of ids that it gains, in ascending order.
 type Gained = (usize, &'static [&'static [u32]]);
@@ -57,13 +57,24 @@ const ROWS: [Row; 4] = [
     },
 ];
 
-/// Whether the registry of a row keeps and answers what it should.
-fn is_right(alloc: Global, row: &Row) -> Result<bool, Unmade> {
-    let graph = graph_of(alloc, row.graph)?;
+/// Whether the registry of a row keeps and answers what it should, over a store of its graph.
+fn is_right_over<G: ReadGraph<Tally>>(alloc: Global, graph: &G, row: &Row) -> Result<bool, Unmade> {
     let patterns = patterns_of(alloc, row.patterns)?;
     let mut steps = Steps::new(Tally::new());
-    let registry = Registry::start(alloc, patterns, &graph, &mut steps)?;
-    Ok(answers_so(&registry, &graph, row.answers, &mut steps)? && keeps(&registry, row.kept))
+    let registry = Registry::start(alloc, patterns, graph, &mut steps)?;
+    Ok(answers_so(&registry, graph, row.answers, &mut steps)? && keeps(&registry, row.kept))
+}
+
+/// Whether it is so over the store of hashed triples.
+fn is_right_in_labels(alloc: Global, row: &Row) -> Result<bool, Unmade> {
+    let graph = graph_of(alloc, row.graph)?;
+    is_right_over(alloc, &graph, row)
+}
+
+/// Whether it is so over the store of blocks.
+fn is_right_in_blocks(alloc: Global, row: &Row) -> Result<bool, Unmade> {
+    let graph = block_graph_of(alloc, row.graph)?;
+    is_right_over(alloc, &graph, row)
 }
 
 /// Whether the registry answers this.
@@ -123,7 +134,7 @@ fn are_answers(deltas: &Deltas, answers: &[Gained]) -> bool {
 /// How many rows, from the first on, are as they should be.
 fn count_right(alloc: Global, rows: &[Row]) -> Result<usize, Unmade> {
     for i in 0..rows.len() {
-        if !is_right(alloc, &rows[i])? {
+        if !is_right_in_labels(alloc, &rows[i])? || !is_right_in_blocks(alloc, &rows[i])? {
             return Ok(i);
         }
     }

@@ -9,7 +9,7 @@ use query_tree::QueryTree;
 use std::alloc::Global;
 use std::test::Fail;
 use worked_parts::shapes::{HOOK, TRIANGLE};
-use worked_parts::{Unmade, first, graph_of, patterns_of, tree_of, triple_of};
+use worked_parts::{Unmade, block_graph_of, first, graph_of, patterns_of, tree_of, triple_of};
 
 /// A vertex of the pattern with an id.
 type Given = (usize, u32);
@@ -100,19 +100,30 @@ fn joins_each<G: ReadGraph<Tally>>(
     true
 }
 
-/// Whether what is told of the candidates of a row is as it should be.
-fn is_right(alloc: Global, row: &Row) -> Result<bool, Unmade> {
-    let graph = graph_of(alloc, row.graph)?;
+/// Whether what is told of the candidates of a row is as it should be, over a store of its graph.
+fn is_right_over<G: ReadGraph<Tally>>(alloc: Global, graph: &G, row: &Row) -> Result<bool, Unmade> {
     let patterns = patterns_of(alloc, row.pattern)?;
     let pattern = first(&patterns)?;
     let tree = tree_of(alloc, pattern, row.edges, row.vertices)?;
-    Ok(joins_each(pattern, &tree, &graph, row.cases))
+    Ok(joins_each(pattern, &tree, graph, row.cases))
+}
+
+/// Whether it is so over the store of hashed triples.
+fn is_right_in_labels(alloc: Global, row: &Row) -> Result<bool, Unmade> {
+    let graph = graph_of(alloc, row.graph)?;
+    is_right_over(alloc, &graph, row)
+}
+
+/// Whether it is so over the store of blocks.
+fn is_right_in_blocks(alloc: Global, row: &Row) -> Result<bool, Unmade> {
+    let graph = block_graph_of(alloc, row.graph)?;
+    is_right_over(alloc, &graph, row)
 }
 
 /// How many rows, from the first on, are as they should be.
 fn count_right(alloc: Global, rows: &[Row]) -> Result<usize, Unmade> {
     for i in 0..rows.len() {
-        if !is_right(alloc, &rows[i])? {
+        if !is_right_in_labels(alloc, &rows[i])? || !is_right_in_blocks(alloc, &rows[i])? {
             return Ok(i);
         }
     }

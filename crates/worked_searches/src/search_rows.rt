@@ -9,7 +9,8 @@ use std::alloc::{AllocError, Global};
 use std::test::Fail;
 use worked_parts::shapes::{BOTH, CHAIN, HOOK, RING, TRIANGLE};
 use worked_parts::{
-    Unmade, add_classes, are_maps, are_same, first, graph_of, patterns_of, tree_of, triple_of,
+    Unmade, add_classes, are_maps, are_same, block_graph_of, first, graph_of, patterns_of, tree_of,
+    triple_of,
 };
 
 /// A triple comes or goes.
@@ -242,19 +243,34 @@ fn takes_each<G: KeepGraph + ReadGraph<Tally>>(
     Ok(true)
 }
 
-/// Whether what is found in a row is as it should be.
-fn is_right(alloc: Global, row: &Row) -> Result<bool, Unmade> {
-    let mut graph = graph_of(alloc, row.graph)?;
+/// Whether what is found in a row is as it should be, over a store of its graph.
+fn is_right_over<G: KeepGraph + ReadGraph<Tally>>(
+    alloc: Global,
+    graph: &mut G,
+    row: &Row,
+) -> Result<bool, Unmade> {
     let patterns = patterns_of(alloc, row.pattern)?;
     let pattern = first(&patterns)?;
     let tree = tree_of(alloc, pattern, row.edges, row.vertices)?;
-    takes_each(alloc, pattern, &tree, &mut graph, row.lines)
+    takes_each(alloc, pattern, &tree, graph, row.lines)
+}
+
+/// Whether it is so over the store of hashed triples.
+fn is_right_in_labels(alloc: Global, row: &Row) -> Result<bool, Unmade> {
+    let mut graph = graph_of(alloc, row.graph)?;
+    is_right_over(alloc, &mut graph, row)
+}
+
+/// Whether it is so over the store of blocks.
+fn is_right_in_blocks(alloc: Global, row: &Row) -> Result<bool, Unmade> {
+    let mut graph = block_graph_of(alloc, row.graph)?;
+    is_right_over(alloc, &mut graph, row)
 }
 
 /// How many rows, from the first on, are as they should be.
 fn count_right(alloc: Global, rows: &[Row]) -> Result<usize, Unmade> {
     for i in 0..rows.len() {
-        if !is_right(alloc, &rows[i])? {
+        if !is_right_in_labels(alloc, &rows[i])? || !is_right_in_blocks(alloc, &rows[i])? {
             return Ok(i);
         }
     }

@@ -4,7 +4,7 @@ use graph_traits::ReadGraph;
 use snapshot_text::write_graph;
 use std::alloc::{AllocError, Global};
 use std::test::Fail;
-use worked_parts::{Unmade, graph_of};
+use worked_parts::{Unmade, block_graph_of, graph_of};
 
 /// A graph file, the bytes that stand before its text, and both together.
 type Row = (&'static str, &'static str, &'static str);
@@ -22,23 +22,30 @@ const ROWS: [Row; 3] = [
     ("v 10\nv 9\ne 10 10 r", "", "v 9\nv 10\ne 10 10 r\n"),
 ];
 
-/// Whether the text of the graph behind these bytes is this.
-fn is_text<G: ReadGraph<Silent>>(
-    alloc: Global,
-    graph: &G,
-    before: &str,
-    text: &str,
-) -> Result<bool, AllocError> {
+/// Whether the text of the graph behind the bytes of a row is as it should be.
+fn is_text<G: ReadGraph<Silent>>(alloc: Global, graph: &G, row: &Row) -> Result<bool, AllocError> {
+    let (_, before, text) = *row;
     let mut out = Vec::from_slice(alloc, before.as_bytes())?;
     write_graph(alloc, graph, &mut out, &mut Steps::new(Silent))?;
     Ok(*out.as_slice() == *text.as_bytes())
 }
 
+/// Whether it is so over the store of hashed triples.
+fn is_right_in_labels(alloc: Global, row: &Row) -> Result<bool, Unmade> {
+    let graph = graph_of(alloc, row.0)?;
+    Ok(is_text(alloc, &graph, row)?)
+}
+
+/// Whether it is so over the store of blocks.
+fn is_right_in_blocks(alloc: Global, row: &Row) -> Result<bool, Unmade> {
+    let graph = block_graph_of(alloc, row.0)?;
+    Ok(is_text(alloc, &graph, row)?)
+}
+
 /// How many graphs, from the first on, are written as they should be.
 fn count_right(alloc: Global, rows: &[Row]) -> Result<usize, Unmade> {
     for i in 0..rows.len() {
-        let (graph, before, text) = rows[i];
-        if !is_text(alloc, &graph_of(alloc, graph)?, before, text)? {
+        if !is_right_in_labels(alloc, &rows[i])? || !is_right_in_blocks(alloc, &rows[i])? {
             return Ok(i);
         }
     }

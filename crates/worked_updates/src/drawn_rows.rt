@@ -12,7 +12,7 @@ use query_tree::QueryTree;
 use std::alloc::{AllocError, Global};
 use std::test::Fail;
 use worked_parts::shapes::{BOTH, CHAIN, HOOK, RING, TRIANGLE};
-use worked_parts::{Unmade, first, graph_of, patterns_of, tree_of};
+use worked_parts::{Unmade, block_graph_of, first, graph_of, patterns_of, tree_of};
 
 /// How many changes are drawn for a row, and how many of them have to be accepted.
 const CHANGES: usize = 800;
@@ -275,22 +275,37 @@ fn count_made<G: KeepGraph + ReadGraph<L>, L: Ledger>(
     Ok(made)
 }
 
-/// Whether the states are those that are built anew after each change of a row.
-fn is_right(alloc: Global, row: &Row) -> Result<bool, Unmade> {
-    let mut graph = graph_of(alloc, GRAPH)?;
+/// Whether the states are those that are built anew after each change of a row, over a store of the graph before the first.
+fn is_right_over<G: KeepGraph + ReadGraph<Tally>>(
+    alloc: Global,
+    graph: &mut G,
+    row: &Row,
+) -> Result<bool, Unmade> {
     let patterns = patterns_of(alloc, row.pattern)?;
     let pattern = first(&patterns)?;
     let tree = tree_of(alloc, pattern, row.edges, row.vertices)?;
     let mut steps = Steps::new(Tally::new());
-    let mut dcg = build(alloc, pattern, &tree, &graph, &mut steps)?;
-    let made = count_made(alloc, pattern, &tree, &mut dcg, &mut graph, row, &mut steps)?;
+    let mut dcg = build(alloc, pattern, &tree, graph, &mut steps)?;
+    let made = count_made(alloc, pattern, &tree, &mut dcg, graph, row, &mut steps)?;
     Ok(made >= LEAST_MADE)
+}
+
+/// Whether it is so over the store of hashed triples.
+fn is_right_in_labels(alloc: Global, row: &Row) -> Result<bool, Unmade> {
+    let mut graph = graph_of(alloc, GRAPH)?;
+    is_right_over(alloc, &mut graph, row)
+}
+
+/// Whether it is so over the store of blocks.
+fn is_right_in_blocks(alloc: Global, row: &Row) -> Result<bool, Unmade> {
+    let mut graph = block_graph_of(alloc, GRAPH)?;
+    is_right_over(alloc, &mut graph, row)
 }
 
 /// How many rows, from the first on, are as they should be.
 fn count_right(alloc: Global, rows: &[Row]) -> Result<usize, Unmade> {
     for i in 0..rows.len() {
-        if !is_right(alloc, &rows[i])? {
+        if !is_right_in_labels(alloc, &rows[i])? || !is_right_in_blocks(alloc, &rows[i])? {
             return Ok(i);
         }
     }

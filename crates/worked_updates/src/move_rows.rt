@@ -14,7 +14,8 @@ use std::alloc::Global;
 use std::test::Fail;
 use worked_parts::shapes::{CHAIN, LABELLED_CHAIN};
 use worked_parts::{
-    Unmade, first, graph_of, has_live_counts, has_states, patterns_of, tree_of, update_of,
+    Unmade, block_graph_of, first, graph_of, has_live_counts, has_states, patterns_of, tree_of,
+    update_of,
 };
 
 /// What is kept of the states.
@@ -245,26 +246,41 @@ fn keeps_each<G: KeepGraph + ReadGraph<L>, L: Ledger>(
     Ok(true)
 }
 
-/// Whether what a row says is kept.
-fn is_right(alloc: Global, row: &Row) -> Result<bool, Unmade> {
-    let mut graph = graph_of(alloc, row.graph)?;
+/// Whether what a row says is kept, over a store of its graph.
+fn is_right_over<G: KeepGraph + ReadGraph<Tally>>(
+    alloc: Global,
+    graph: &mut G,
+    row: &Row,
+) -> Result<bool, Unmade> {
     let patterns = patterns_of(alloc, row.pattern)?;
     let pattern = first(&patterns)?;
     let tree = tree_of(alloc, pattern, row.edges, row.vertices)?;
     let mut steps = Steps::new(Tally::new());
-    let mut dcg = build(alloc, pattern, &tree, &graph, &mut steps)?;
+    let mut dcg = build(alloc, pattern, &tree, graph, &mut steps)?;
     if !keeps(&dcg, tree.vertex_count(), &row.built) {
         return Ok(false);
     }
     keeps_each(
-        alloc, pattern, &tree, &mut dcg, &mut graph, row.lines, &mut steps,
+        alloc, pattern, &tree, &mut dcg, graph, row.lines, &mut steps,
     )
+}
+
+/// Whether it is so over the store of hashed triples.
+fn is_right_in_labels(alloc: Global, row: &Row) -> Result<bool, Unmade> {
+    let mut graph = graph_of(alloc, row.graph)?;
+    is_right_over(alloc, &mut graph, row)
+}
+
+/// Whether it is so over the store of blocks.
+fn is_right_in_blocks(alloc: Global, row: &Row) -> Result<bool, Unmade> {
+    let mut graph = block_graph_of(alloc, row.graph)?;
+    is_right_over(alloc, &mut graph, row)
 }
 
 /// How many rows, from the first on, are as they should be.
 fn count_right(alloc: Global, rows: &[Row]) -> Result<usize, Unmade> {
     for i in 0..rows.len() {
-        if !is_right(alloc, &rows[i])? {
+        if !is_right_in_labels(alloc, &rows[i])? || !is_right_in_blocks(alloc, &rows[i])? {
             return Ok(i);
         }
     }
