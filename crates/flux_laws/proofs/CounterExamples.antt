@@ -1,16 +1,17 @@
 -- Laws without one of their premises, each with values for which they are false.
 use Rattle.std.specs.Prelude.{◌≡◌, ℕ, zero, suc, ◌+◌, ◌≤◌, List, [], ◌∷◌, ◌++◌, codes, length, map, take, Option, None, Some, Result, Ok, Err, if◌then◌else◌}
-use Rattle.std.proofs.Common.{true, refl, ap, arith}
+use Rattle.std.proofs.Common.{true, refl, sym, ap, ◌∙◌, arith}
 use Rattle.std.specs.List.{Any}
 use Rattle.std.specs.Str.{bytes_eq}
 use Rattle.std.specs.Fmt.{digits}
 use Rattle.flux_model.specs.Limits.{standard}
-use Rattle.flux_model.specs.Lines.{lines}
+use Rattle.flux_model.specs.Lines.{lines, open_end}
 use Rattle.flux_model.specs.Reading.{graph_reading}
 use Rattle.flux_model.specs.Graph.{Graph, IsGraph, empty_graph, apply}
 use Rattle.flux_model.specs.GraphFile.{read_graph, graph_of}
 use Rattle.flux_model.specs.GraphText.{graph_text}
 use Rattle.flux_model.specs.Pattern.{PatternGraph, IsPattern, is_connected}
+use Rattle.flux_model.specs.PatternFile.{patterns_of}
 use Rattle.flux_model.specs.Report.{blocks}
 use Rattle.flux_model.specs.Verdict.{Shape, Match, Save, Files, Accepted, Watched, Ending, Done, NoFile, TooMuch, graph_file, ending_of, ending_with, written_before}
 use Rattle.flux_model.specs.declared.code.Bad.{Bad}
@@ -19,6 +20,7 @@ use Rattle.flux_model.specs.declared.graph.Update.TheVariants.{AddVertex}
 use Rattle.flux_model.specs.declared.limits.Limits.{Limits}
 use Rattle.flux_model.specs.declared.pattern.Mode.TheVariants.{Hom}
 use Rattle.flux_model.specs.declared.pattern.PatternEdge.{PatternEdge}
+use Rattle.flux_laws.specs.DividedLaws.{AreFileParts}
 use Rattle.flux_laws.specs.ReportsLaws.{updates_in, graph_after_all}
 use Rattle.flux_laws.specs.TextsLaws.{longest_line}
 use Rattle.flux_laws.specs.VerdictsLaws.{graph_name, HaveSamePatterns, IsFrontOf}
@@ -151,3 +153,28 @@ BlocksInAnyParts =
 cut_line_has_another_block : BlocksInAnyParts → ⊥
 unfolding digits
 cut_line_has_another_block law = let same : [] ≡ codes "! 2 word\n" = law standard [] empty_graph (codes "#") (codes "x\n") in cc
+
+-- ---- a pattern file that is cut inside a pattern
+
+abbrev FileInAnyParts : Type 0
+FileInAnyParts =
+    (limits : Limits) (first second : List ℕ) (all : List PatternGraph) → open_end first ≡ [] → patterns_of limits (first ++ second) ≡ Ok all → AreFileParts limits first second all
+
+abbrev begun : List ℕ
+begun = codes "p a hom" ++ 10 ∷ codes "v 0" ++ 10 ∷ []
+
+abbrev left : List ℕ
+left = codes "v 1" ++ 10 ∷ codes "e 0 1 r" ++ 10 ∷ []
+
+abbrev one_edge : PatternGraph
+one_edge = record { name = codes "a"; mode = Hom; labels = [] ∷ [] ∷ []; edges = record { tail = 0; label = codes "r"; head = 1 } ∷ [] }
+
+-- what is left has no name line, and is refused
+cut_inside_is_refused : FileInAnyParts → ⊥
+cut_inside_is_refused law =
+    let parts : AreFileParts standard begun left (one_edge ∷ []) = law standard begun left (one_edge ∷ []) refl refl in
+    let refused : ◌≡◌ {A = Result (List PatternGraph) Bad} (patterns_of standard left) (Err (record { line = 1; code = code.NoName })) = refl in
+    absurd (never parts.rs (sym refused ∙ parts.second_part))
+  where
+    never : (rs : List PatternGraph) → ◌≡◌ {A = Result (List PatternGraph) Bad} (Err (record { line = 1; code = code.NoName })) (Ok rs) → ⊥
+    never rs e = cc

@@ -1,10 +1,12 @@
 pub mod AscendingLemmas
+pub mod BetweenLemmas
 pub mod ChangesLemmas
 pub mod ClassesLemmas
 pub mod ConnectedLemmas
 pub mod CounterExamples
 pub mod EmbeddingsLemmas
 pub mod ExactLemmas
+pub mod FilePartLemmas
 pub mod FilesLemmas
 pub mod FormsLemmas
 pub mod FrontLemmas
@@ -15,6 +17,7 @@ pub mod LinesLemmas
 pub mod MapsLemmas
 pub mod MatchLemmas
 pub mod MemberLemmas
+pub mod MergedLemmas
 pub mod NameSetLemmas
 pub mod OneMoreLemmas
 pub mod PatternsLemmas
@@ -23,6 +26,7 @@ pub mod ReadingLemmas
 pub mod ReportsLemmas
 pub mod SameMembersLemmas
 pub mod SetsLemmas
+pub mod StreamsLemmas
 pub mod TestLemmas
 pub mod TextsLemmas
 pub mod TouchedLemmas

@@ -107,7 +107,7 @@ module _ {T : Type 0} (P : T → Type 0) where
 
 -- ---- a line of a graph file
 
-graph_form : (word : List ℕ) (others : List (List ℕ)) → Saying IsSound (read_graph_form word others)
+pub graph_form : (word : List ℕ) (others : List (List ℕ)) → Saying IsSound (read_graph_form word others)
 graph_form word others =
     either_way IsSound (bytes_eq word (codes "v")) (read_vertex AddVertex others) _
     (λ e. vertex_said IsSound AddVertex (λ n labels small set. record { id = small; labels = set }) others)

@@ -30,7 +30,7 @@ use Rattle.flux_laws.proofs.ReportsLemmas.{cut_in_parts, blocks-append}
 -- ---- files
 
 -- what an accepted file holds was accepted
-held_accepted : {S T : Type 0} (n : ℕ) (front : List ℕ → Result S Bad) (all : List ℕ → Result T Bad) (bad : Bad → Verdict) (file : Option (List ℕ)) (x : T)
+pub held_accepted : {S T : Type 0} (n : ℕ) (front : List ℕ → Result S Bad) (all : List ℕ → Result T Bad) (bad : Bad → Verdict) (file : Option (List ℕ)) (x : T)
     → file_as n front all bad file ≡ Ok x → (bytes : List ℕ) × (all bytes ≡ Ok x)
 held_accepted n front all bad None x e = cc
 held_accepted n front all bad (Some bytes) x e = (bytes, by (nat_lt n (length bytes) && is_ok (front (take n bytes))) (all bytes) e)
@@ -41,7 +41,7 @@ held_accepted n front all bad (Some bytes) x e = (bytes, by (nat_lt n (length by
     by false (Err e) f = cc
 
 -- a file that is not too long is accepted as what it holds is
-accepted_as : {S T : Type 0} (n : ℕ) (front : List ℕ → Result S Bad) (all : List ℕ → Result T Bad) (bad : Bad → Verdict) (bytes : List ℕ) (x : T)
+pub accepted_as : {S T : Type 0} (n : ℕ) (front : List ℕ → Result S Bad) (all : List ℕ → Result T Bad) (bad : Bad → Verdict) (bytes : List ℕ) (x : T)
     → length bytes ≤ n → all bytes ≡ Ok x → file_as n front all bad (Some bytes) ≡ Ok x
 accepted_as n front all bad bytes x few e =
     let short : nat_lt n (length bytes) ≡ false = grind (arith, nat_tests) in

@@ -1,13 +1,16 @@
 pub mod ChangesLaws
 pub mod ClassesLaws
+pub mod DividedLaws
 pub mod EmbeddingsLaws
 pub mod FilesLaws
 pub mod GraphsLaws
 pub mod JointsLaws
 pub mod LinesLaws
 pub mod PatternsLaws
+pub mod ReportText
 pub mod ReportsLaws
 pub mod SetsLaws
+pub mod StreamsLaws
 pub mod TextsLaws
 pub mod VerdictsLaws
 pub mod VerticesLaws

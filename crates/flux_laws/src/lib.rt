@@ -12,11 +12,13 @@
 //! - `joints`: changes of the graph that bring and take no joint of a pattern's tree.
 //! - `texts`: the text of a graph makes the graph again.
 //! - `reports`: how the report of updates that come in two parts is put together.
+//! - `streams` and `divided`: the report of updates, or of patterns, in two parts, as one text.
 //! - `verdicts`: a run over a graph that was saved, over a file that is refused in its front, and where a read fails.
 #![tactic(auto)]
 
 pub mod changes;
 pub mod classes;
+pub mod divided;
 pub mod embeddings;
 pub mod files;
 pub mod graphs;
@@ -25,6 +27,7 @@ pub mod lines;
 pub mod patterns;
 pub mod reports;
 pub mod sets;
+pub mod streams;
 pub mod texts;
 pub mod verdicts;
 pub mod vertices;

@@ -1,5 +1,5 @@
 //! Updates that come in two parts.
-ghost use Rattle.report_laws.specs.StreamsLaws.{StreamsInParts};
+ghost use Rattle.flux_laws.specs.StreamsLaws.{StreamsInParts};
 
 /// The report of updates that are cut after the end of a line has the lines of the first part's report, then those of the report of
 /// the second part over the graph in between, their numbers moved on by the lines of the first part, and an end line of the sums.

@@ -22,7 +22,7 @@ use Rattle.flux_model.specs.declared.pattern.PatternPart.TheVariants as part
 use Rattle.flux_model.specs.declared.limits.Limits.{Limits}
 use Rattle.flux_model.proofs.FileReadingLemmas.{read_from-append}
 use Rattle.flux_laws.proofs.ReportsLemmas.{lines-append}
-use Rattle.report_laws.specs.DividedLaws.{AreFileParts, PatternFileInParts}
+use Rattle.flux_laws.specs.DividedLaws.{AreFileParts, PatternFileInParts}
 
 -- ---- tests that refuse
 

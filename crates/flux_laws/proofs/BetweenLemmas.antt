@@ -1,32 +1,30 @@
 -- The graph between two parts of the updates, and the file of its text.
-use Rattle.std.proofs.Common.{◌≡◌, ℕ, ◌≤◌, Bool, true, false, ◌&&◌, cond, nat_lt, List, [], ◌∷◌, length, take, map, Option, None, Some, Result, Ok, Err, refl, arith}
-use Rattle.std.proofs.lemmas.Bool.Decides.{nat_tests}
-use Rattle.std.specs.Prelude.{codes, is_ok}
+use Rattle.std.proofs.Common.{◌≡◌, ℕ, ◌≤◌, List, [], ◌∷◌, length, map, Option, Some, Result, Ok, Err, refl}
+use Rattle.std.specs.Prelude.{codes}
 use Rattle.std.specs.List.{AllByRecursion}
-use Rattle.std.specs.Result.{result_map_both}
 use Rattle.std.specs.Str.{bytes_eq}
 use Rattle.flux_model.specs.Lines.{InputLine, held, long, lines, whole}
-use Rattle.flux_model.specs.Reading.{words_of, read_vertex, read_edge, read_id, added_edge, dropped_edge, read_graph_form, read_update_form, graph_reading, update_reading}
+use Rattle.flux_model.specs.Reading.{words_of, read_edge, read_id, dropped_edge, read_graph_form, read_update_form, graph_reading, update_reading}
 use Rattle.flux_model.specs.Graph.{Graph, IsGraph, IsWithin, apply}
 use Rattle.flux_model.specs.GraphFile.{read_graph, graph_of}
 use Rattle.flux_model.specs.GraphText.{graph_text}
 use Rattle.flux_model.specs.Report.{applied, graph_after, next_graph}
-use Rattle.flux_model.specs.Verdict.{Verdict, TooMuch, BadGraph, file_as, graph_file}
+use Rattle.flux_model.specs.Verdict.{BadGraph, graph_file}
 use Rattle.flux_model.specs.declared.code.Bad.{Bad}
 use Rattle.flux_model.specs.declared.code.Code.{Code}
-use Rattle.flux_model.specs.declared.code.Code.TheVariants as code
 use Rattle.flux_model.specs.declared.said.Said.{Said}
 use Rattle.flux_model.specs.declared.said.Said.TheVariants.{Nothing, Says, Refused}
 use Rattle.flux_model.specs.declared.graph.Update.{Update}
-use Rattle.flux_model.specs.declared.graph.Update.TheVariants.{AddVertex, DropVertex}
+use Rattle.flux_model.specs.declared.graph.Update.TheVariants.{DropVertex}
 use Rattle.flux_model.specs.declared.limits.Limits.{Limits}
 use Rattle.flux_laws.specs.GraphsLaws.{IsSound}
 use Rattle.flux_laws.specs.ReportsLaws.{updates_in, graph_after_all}
 use Rattle.flux_laws.specs.TextsLaws.{longest_line}
 use Rattle.flux_laws.proofs.FilesLemmas.{makes_graph, within_limits}
 use Rattle.flux_laws.proofs.GraphsLemmas.{keeps_graph, keeps_limits}
-use Rattle.flux_laws.proofs.ReadingLemmas.{all-map, Saying, either_way, number_said, vertex_said, edge_said, words_said}
+use Rattle.flux_laws.proofs.ReadingLemmas.{all-map, Saying, either_way, number_said, edge_said, words_said, graph_form}
 use Rattle.flux_laws.proofs.TextsLemmas.{graph_read_back}
+use Rattle.flux_laws.proofs.VerdictsLemmas.{held_accepted, accepted_as}
 
 -- ---- what a line of the updates says may stand in a graph
 
@@ -34,13 +32,6 @@ id_said : (words : List (List ℕ)) → Saying IsSound (read_id DropVertex words
 id_said [] = tt
 id_said (id ∷ []) = number_said IsSound id (λ n. Says (DropVertex n)) (λ n small. tt)
 id_said (id ∷ more ∷ words) = tt
-
-graph_form : (word : List ℕ) (others : List (List ℕ)) → Saying IsSound (read_graph_form word others)
-graph_form word others =
-    either_way IsSound (bytes_eq word (codes "v")) (read_vertex AddVertex others) _
-    (λ e. vertex_said IsSound AddVertex (λ n labels small set. record { id = small; labels = set }) others)
-    (λ e. either_way IsSound (bytes_eq word (codes "e")) (read_edge added_edge others) (Refused code.Word)
-    (λ d. edge_said IsSound added_edge (λ s label d text. text) others) (λ d. tt))
 
 update_form : (word : List ℕ) (others : List (List ℕ)) → Saying IsSound (read_update_form word others)
 update_form word others =
@@ -72,24 +63,6 @@ module _ (limits : Limits) (P : Graph → Type 0) (keep : (g h : Graph) (update 
   updates_keep g bytes p = saids_keep g (updates_in limits bytes) (all-map (Saying IsSound) update_reading update_line (lines limits.line_bytes bytes)) p
 
 -- ---- files
-
--- what an accepted file holds was accepted
-held_accepted : {S T : Type 0} (n : ℕ) (front : List ℕ → Result S Bad) (all : List ℕ → Result T Bad) (bad : Bad → Verdict) (file : Option (List ℕ)) (x : T)
-    → file_as n front all bad file ≡ Ok x → (bytes : List ℕ) × (all bytes ≡ Ok x)
-held_accepted n front all bad None x e = cc
-held_accepted n front all bad (Some bytes) x e = (bytes, by (nat_lt n (length bytes) && is_ok (front (take n bytes))) (all bytes) e)
-  where
-    by : (b : Bool) (r : Result _ Bad) → cond b (Err TooMuch) (result_map_both (λ y. y) bad r) ≡ Ok x → r ≡ Ok x
-    by true r f = cc
-    by false (Ok y) f = cc
-    by false (Err e) f = cc
-
--- a file that is not too long is accepted as what it holds is
-accepted_as : {S T : Type 0} (n : ℕ) (front : List ℕ → Result S Bad) (all : List ℕ → Result T Bad) (bad : Bad → Verdict) (bytes : List ℕ) (x : T)
-    → length bytes ≤ n → all bytes ≡ Ok x → file_as n front all bad (Some bytes) ≡ Ok x
-accepted_as n front all bad bytes x few e =
-    let short : nat_lt n (length bytes) ≡ false = grind (arith, nat_tests) in
-    rw (short, e) refl
 
 -- the text of the graph after updates is accepted as that graph
 pub between_file : (limits : Limits) (file : Option (List ℕ)) (g : Graph) (bytes : List ℕ) → graph_file limits file ≡ Ok g → longest_line ≤ limits.line_bytes

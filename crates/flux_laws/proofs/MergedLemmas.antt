@@ -8,7 +8,7 @@ use Rattle.flux_model.specs.Report.{Outcome, Ignored, Rejected, Changed, outcome
 use Rattle.flux_model.specs.declared.limits.Limits.{Limits}
 use Rattle.flux_model.specs.declared.said.Said.{Said}
 use Rattle.flux_model.specs.declared.graph.Update.{Update}
-use Rattle.report_laws.specs.DividedLaws.{block_list, merged_block, merged, PatternsInParts}
+use Rattle.flux_laws.specs.DividedLaws.{block_list, merged_block, merged, PatternsInParts}
 
 -- the blocks are those of the lines, one after another
 listed : (limits : Limits) (qs : List PatternGraph) (g : Graph) (saids : List (Said Update)) (k : ℕ) → blocks limits qs g saids k ≡ flat_map (λ b. b) (block_list limits qs g saids k)

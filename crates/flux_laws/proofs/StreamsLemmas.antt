@@ -20,9 +20,9 @@ use Rattle.flux_model.specs.declared.said.Said.{Said}
 use Rattle.flux_model.specs.declared.graph.Update.{Update}
 use Rattle.flux_laws.specs.ReportsLaws.{updates_in, graph_after_all}
 use Rattle.flux_laws.proofs.ReportsLemmas.{lines-append, blocks-append}
-use Rattle.report_laws.specs.StreamsLaws.{done_with, StreamsInParts}
-use Rattle.report_laws.proofs.BetweenLemmas.{between_file}
-use Rattle.report_laws.specs.ReportText.{BlockLine, Counts, moved_line, moved, counts_line, sum}
+use Rattle.flux_laws.specs.StreamsLaws.{done_with, StreamsInParts}
+use Rattle.flux_laws.proofs.BetweenLemmas.{between_file}
+use Rattle.flux_laws.specs.ReportText.{BlockLine, Counts, moved_line, moved, counts_line, sum}
 
 -- ---- the lines of a block
 

@@ -1,5 +1,5 @@
 //! Patterns that are divided in two.
-ghost use Rattle.report_laws.specs.DividedLaws.{PatternsInParts, PatternFileInParts};
+ghost use Rattle.flux_laws.specs.DividedLaws.{PatternsInParts, PatternFileInParts};
 
 /// The block of each line is that of the first patterns and then that of the others, where a refusal stands once. The end line is
 /// the same for all.

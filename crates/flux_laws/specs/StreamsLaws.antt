@@ -8,7 +8,7 @@ use Rattle.flux_model.specs.Verdict.{Watch, Watched, Files, Ending, Done, accept
 use Rattle.flux_model.specs.declared.limits.Limits.{Limits}
 use Rattle.flux_laws.specs.ReportsLaws.{updates_in, graph_after_all}
 use Rattle.flux_laws.specs.TextsLaws.{longest_line}
-use Rattle.report_laws.specs.ReportText.{BlockLine, Counts, moved, counts_line, sum}
+use Rattle.flux_laws.specs.ReportText.{BlockLine, Counts, moved, counts_line, sum}
 
 -- a run that is done, and wrote this
 abbrev pub done_with : List ℕ → Ending

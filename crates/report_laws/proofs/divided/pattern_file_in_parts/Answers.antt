@@ -1,5 +1,0 @@
-use Rattle.report_laws.proofs.FilePartLemmas.{file_in_parts}
-use Rattle.report_laws.proofs.divided.pattern_file_in_parts.Goals as goal
-
-pub returns : goal.returns
-returns c = file_in_parts

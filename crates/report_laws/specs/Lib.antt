@@ -1,3 +1,0 @@
-pub mod DividedLaws
-pub mod ReportText
-pub mod StreamsLaws
