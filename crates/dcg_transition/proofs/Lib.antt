@@ -6,3 +6,4 @@ pub mod ReachLemmas
 pub mod RootLemmas
 pub mod ExtendLemmas
 pub mod StepLemmas
+pub mod FittingLemmas

@@ -24,9 +24,11 @@ use Rattle.dcg_store.specs.Moves.{in_raised}
 use Rattle.dcg_store.proofs.StateLemmas.{inside_of_reaches}
 use Rattle.dcg_transition.specs.Filled.{child_counts, begun, ins_at, AreBegun, HasMoreIns, counted_row}
 use Rattle.dcg_transition.specs.Levels.{is_before, IsReached, IsCounted}
+use Rattle.dcg_transition.specs.Roots.{with_labels, with_root_labels}
 use Rattle.dcg_transition.proofs.CallerLemmas.{reaches-root}
 use Rattle.graph_rows.proofs.SumLemmas.{sum_alike, sum_nothing, once, distinct_ids, listed_id}
-use Rattle.dcg_transition.proofs.BegunLemmas.{ins_of, ins_is, more_twice, more_alike, one_more}
+use Rattle.dcg_transition.proofs.BegunLemmas.{ins_of, ins_is, more_twice, one_more}
+use Rattle.dcg_transition.proofs.FittingLemmas.{fitting-few, fitting-count, root-fitting}
 use Rattle.dcg_transition.proofs.LevelLemmas.{depth-not_root, before_first}
 use Rattle.dcg_transition.proofs.ReachLemmas.{no_child, begun_row, vertex_of_fits}
 
@@ -67,9 +69,6 @@ module _ (q : PatternGraph) (t : QueryTree) (belongs : BelongsTo q t) (g : Graph
   abbrev to_root : Joined
   to_root = joined q t g
 
-  abbrev pub fitting : ℕ → ℕ → Bool
-  fitting w v = fits_labels g labels v && v == w
-
   no_row : (u v : ℕ) → row_at old u v ≡ None
   no_row u v = ap (λ d. row_at d u v) empty_is ∙ get-empty pair_cmp (u, v)
 
@@ -89,9 +88,22 @@ module _ (q : PatternGraph) (t : QueryTree) (belongs : BelongsTo q t) (g : Graph
   root_count : (w : ℕ) → in_count to_root t.root w ≡ 1
   root_count w = rw belongs.tree.top refl
 
-  module _ (limits : Limits) (held : IsWithinLimits limits g) (listed : List ℕ) (each : IsPermutation listed (ids g)) where
+  module _ (limits : Limits) (held : IsWithinLimits limits g) (listed : List ℕ) (each : IsPermutation listed (ids g)) (roots : List ℕ) (roots_is : roots ≡ with_root_labels q t g listed) where
+    listed_roots : roots ≡ with_labels g labels listed
+    listed_roots = roots_is ∙ root-fitting q t g listed labels labels_is
+
+    pub root_few : length roots ≤ length g.vertices
+    root_few =
+        omega (
+          arith,
+          ap (λ (vs : List ℕ). length vs) listed_roots,
+          fitting-few g labels listed,
+          length_permutation listed (ids g) each,
+          length-map g.vertices (λ (x : Vertex). x.id),
+        )
+
     -- no in counter comes to its bound
-    pub root_room : (i v : ℕ) (d : StateRows) (row : Row) → HasMoreIns t.root (λ w. count_by (fitting w) (take i listed)) old d → row_at d t.root v ≡ Some row → row.ins < 2 ^ 32 - 1
+    pub root_room : (i v : ℕ) (d : StateRows) (row : Row) → HasMoreIns t.root (λ w. count_by (λ x. x == w) (take i roots)) old d → row_at d t.root v ≡ Some row → row.ins < 2 ^ 32 - 1
     root_room i v d row grown e =
         let ins = ins_is d t.root v row e in
         omega (
@@ -99,53 +111,41 @@ module _ (q : PatternGraph) (t : QueryTree) (belongs : BelongsTo q t) (g : Graph
           ins,
           grown.ins v,
           no_ins t.root v,
-          count_by-le-length (fitting v) (take i listed),
-          length-take i listed,
-          length_permutation listed (ids g) each,
-          length-map g.vertices (λ (x : Vertex). x.id),
+          count_by-le-length (λ x. x == v) (take i roots),
+          length-take i roots,
+          root_few,
           held.within.vertices,
           held.fair.vertices.1,
         )
 
-    step : (i v w : ℕ) (b : Bool) → slice_get listed i ≡ Some v → fits_labels g labels v ≡ b → count_by (fitting w) (take (i + 1) listed) ≡ count_by (fitting w) (take i listed) + cond (b && v == w) 1 0
-    step i v w b at fit =
-        let within = slice_get_within listed i v at in
-        let here : ◌≡◌ {A = ℕ} (cond (fitting w (get_or listed i v)) 1 0) (cond (fitting w v) 1 0) = λ k. cond (fitting w (get_or_from_slice_get listed i v v at k)) 1 0 in
-        let now : ◌≡◌ {A = ℕ} (cond (fitting w v) 1 0) (cond (b && v == w) 1 0) = λ k. cond (fit k && v == w) 1 0 in
-        omega (arith, sum_by_more (λ x. cond (fitting w x) 1 0) listed i v within, here, now)
-
-    pub root_fits : (i v : ℕ) (answer : Bool) (mid new : StateRows) → slice_get listed i ≡ Some v → answer ≡ fits_labels g labels v → answer ≡ true → HasMoreIns t.root (λ w. count_by (fitting w) (take i listed)) old mid
-        → (u : ℕ) (after : StateRows) → u ≡ t.root → new ≡ after → after ≡ in_raised mid u v → HasMoreIns t.root (λ w. count_by (fitting w) (take (i + 1) listed)) old new
-    root_fits i v answer mid new at told holds so_far u after root same raised =
-        more_twice t.root (λ w. count_by (fitting w) (take i listed)) (λ w. cond (w == v) 1 0) (λ w. count_by (fitting w) (take (i + 1) listed)) old mid new so_far
-        (one_more t.root v mid new so_far.begun (same ∙ raised ∙ ap (λ x. in_raised mid x v) root))
+    pub root_next : (i v u : ℕ) (mid new : StateRows) → slice_get roots i ≡ Some v → u ≡ t.root → HasMoreIns t.root (λ w. count_by (λ x. x == w) (take i roots)) old mid → new ≡ in_raised mid u v
+        → HasMoreIns t.root (λ w. count_by (λ x. x == w) (take (i + 1) roots)) old new
+    root_next i v u mid new at root so_far raised =
+        more_twice t.root (λ w. count_by (λ x. x == w) (take i roots)) (λ w. cond (w == v) 1 0) (λ w. count_by (λ x. x == w) (take (i + 1) roots)) old mid new so_far
+        (one_more t.root v mid new so_far.begun (raised ∙ ap (λ x. in_raised mid x v) root))
         (λ w.
-        let flip : ◌≡◌ {A = ℕ} (cond (w == v) 1 0) (cond (true && v == w) 1 0) = ap (λ b. cond b 1 0) (nat_eq_equiv.symm w v) in
-        omega (arith, step i v w true at (sym told ∙ holds), flip))
+        let within = slice_get_within roots i v at in
+        let here : ◌≡◌ {A = ℕ} (cond (get_or roots i v == w) 1 0) (cond (v == w) 1 0) = ap {B = ℕ} (λ x. cond (x == w) 1 0) (get_or_from_slice_get roots i v v at) in
+        let flip : ◌≡◌ {A = ℕ} (cond (w == v) 1 0) (cond (v == w) 1 0) = ap (λ b. cond b 1 0) (nat_eq_equiv.symm w v) in
+        omega (arith, sum_by_more (λ x. cond (x == w) 1 0) roots i v within, here, flip))
 
-    pub root_differs : (i v : ℕ) (answer : Bool) (mid new : StateRows) → slice_get listed i ≡ Some v → answer ≡ fits_labels g labels v → answer ≡ false → HasMoreIns t.root (λ w. count_by (fitting w) (take i listed)) old mid → new ≡ mid
-        → HasMoreIns t.root (λ w. count_by (fitting w) (take (i + 1) listed)) old new
-    root_differs i v answer mid new at told holds so_far same =
-        subst (λ d. HasMoreIns t.root (λ w. count_by (fitting w) (take (i + 1) listed)) old d) (sym same)
-        (more_alike t.root (λ w. count_by (fitting w) (take i listed)) (λ w. count_by (fitting w) (take (i + 1) listed)) old mid so_far
-        (λ w. omega (arith, step i v w false at (sym told ∙ holds))))
-
-    pub root_reached : (i : ℕ) (new : StateRows) → length g.vertices ≤ i → HasMoreIns t.root (λ w. count_by (fitting w) (take i listed)) old new → IsReached to_root (is_before t 1 0) new
+    pub root_reached : (i : ℕ) (new : StateRows) → length roots ≤ i → HasMoreIns t.root (λ w. count_by (λ x. x == w) (take i roots)) old new → IsReached to_root (is_before t 1 0) new
     root_reached i new end grown = record {
       whole = grown.beside.whole ∙ ap (λ (d : StateRows). d.is_broken) empty_is;
       children = grown.beside.children ∙ ap (λ (d : StateRows). d.children) empty_is;
       rows = rows;
     }
       where
-        long : length listed ≤ i
-        long = omega (arith, length_permutation listed (ids g) each, length-map g.vertices (λ (x : Vertex). x.id), end)
+        fitting : ℕ → ℕ → Bool
+        fitting w v = fits_labels g labels v && v == w
 
         all : (w : ℕ) → ins_at new t.root w ≡ cond (fits_labels g labels w) 1 0
         all w =
-            let taken = ap (count_by (fitting w)) (take_all i listed long) in
+            let taken = ap (count_by (λ x. x == w)) (take_all i roots end) in
+            let among = ap (count_by (λ x. x == w)) listed_roots ∙ fitting-count g labels listed w in
             let over_ids = sum_by-IsPermutation (λ v. cond (fitting w v) 1 0) listed (ids g) each in
             let one = counted_once (λ v. fits_labels g labels v) w (ids g) (λ b. once w 1 (ids g) (distinct_ids g held.graph) (sym (listed_id g w) ∙ vertex_of_fits q t.root g w (fits_root w ∙ b))) in
-            omega (arith, grown.ins w, no_ins t.root w, taken, over_ids, one)
+            omega (arith, grown.ins w, no_ins t.root w, taken, among, over_ids, one)
 
         width : slice_index new.children t.root ≡ length (children t t.root)
         width =

@@ -139,8 +139,9 @@ paid s x n v w some few vertices rows =
     let whole : 32 * s * x ≡ 32 * (s * x) = mul_assoc 32 s x in
     omega (arith, first, second, twice, whole)
 
-pub build_paid : (g : Graph) (q : PatternGraph) (n old mid new : ℕ) → n ≡ vertex_count q → 0 < n → mid ≤ old + 3 * length g.vertices + n * (length g.vertices + 3 * length g.triples)
-    → new ≤ mid + n * (length g.vertices + 3 * length g.triples) → 4 * new ≤ 4 * old + 3 * start_cost q g
+-- by a caller who lists the vertices that fit the root, which takes two steps for each vertex
+pub build_paid : (g : Graph) (q : PatternGraph) (n old mid new : ℕ) → n ≡ vertex_count q → 0 < n → mid ≤ old + length g.vertices + n * (length g.vertices + 3 * length g.triples)
+    → new ≤ mid + n * (length g.vertices + 3 * length g.triples) → 4 * (new + 2 * length g.vertices) ≤ 4 * old + 3 * start_cost q g
 build_paid g q n old mid new is some first second =
     let most = paid (length q.labels + length q.edges) (length g.vertices + 2 * length g.triples + 1) n (length g.vertices) (length g.vertices + 3 * length g.triples)
     (omega (arith, is, some)) (omega (arith, is)) (omega arith) (omega arith) in

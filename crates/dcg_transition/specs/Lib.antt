@@ -1,3 +1,4 @@
 pub mod Filled
 pub mod Levels
+pub mod Roots
 pub mod Tallies

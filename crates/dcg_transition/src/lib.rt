@@ -7,7 +7,8 @@
 //! The calls by which they move with the graph are handed on from `dcg_updates`: `after_insert` and `after_delete` where a triple
 //! came or went, and `after_vertex` where a vertex did.
 //!
-//! - `rows`: `build`, all rows of a tree over a graph.
+//! - `rows`: `build`, all rows of a tree over a graph, and `build_from`, the same where the vertices that fit the root are listed.
+//! - `roots`: `fitting`, the vertices that fit a set of labels.
 //! - `levels`: the depths of the vertices of a tree, and how many children each has.
 //! - `reach`: the rows, from the root down.
 //! - `extend`: the out counters, from the leaves up.
@@ -16,7 +17,9 @@
 mod extend;
 mod levels;
 mod reach;
+mod roots;
 mod rows;
 
 pub use dcg_updates::{after_delete, after_insert, after_vertex};
-pub use rows::build;
+pub use roots::fitting;
+pub use rows::{build, build_from};

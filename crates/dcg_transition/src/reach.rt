@@ -11,6 +11,7 @@ ghost use Rattle.graph_rows.specs.Directions.{whole_row};
 ghost use Rattle.dcg_transition.specs.Tallies.{HasRoomToJoin};
 ghost use Rattle.dcg_transition.specs.Filled.{child_counts, AreBegun, HasMoreIns};
 ghost use Rattle.dcg_transition.specs.Levels.{depths_of, IsReachedTo, IsCounted};
+ghost use Rattle.dcg_transition.specs.Roots.{with_root_labels};
 
 use dcg_store::Dcg;
 use flux_model::{Ledger, Pattern, Steps};
@@ -21,50 +22,54 @@ use std::alloc::{AllocError, Global};
 
 /// Makes the rows of all pairs that are not null, with no out counter raised. `depths` has the depth of each vertex.
 ///
-/// Of the root each vertex of the graph takes three steps at most, and of each vertex of the tree one, and three for each of its triples.
+/// `roots` has the vertices that fit the root. Each vertex of the graph takes one step at most for the root, one for each vertex of the
+/// tree, and there three for each of its triples.
 pub fn reach<G: ReadGraph<L>, L: Ledger>(
     alloc: Global,
     graph: &G,
     pattern: &Pattern,
     tree: &QueryTree,
     depths: &[usize],
+    roots: &[u32],
     dcg: &mut Dcg,
     steps: &mut Steps<L>,
 ) -> Result<(), AllocError>
     requires belongs { BelongsTo pattern.now tree.now }
     requires depths { depths.now ≡ depths_of tree.now }
+    requires roots { roots.now ≡ with_root_labels pattern.now tree.now (G.graph graph.now) (G.listed graph.now) }
     requires empty { dcg.old ≡ record { is_broken = false; children = child_counts tree.now; rows = empty } }
     ensures counted { OnOk result (IsCounted (joined pattern.now tree.now (G.graph graph.now)) (λ _. false) dcg.new) }
     ensures steps { let v = length (G.graph graph.now).vertices in let rows = v + 3 * length (G.graph graph.now).triples in
-        OnOk result (steps.new ≤ steps.old + 3 * v + length tree.now.links * rows) }
+        OnOk result (steps.new ≤ steps.old + v + length tree.now.links * rows) }
 {
-    reach_root(graph, pattern, tree, dcg, steps)?;
+    reach_root(graph, pattern, tree, roots, dcg, steps)?;
     for level in 1..tree.vertex_count() {
         reach_level(alloc, graph, pattern, tree, depths, level, dcg, steps)?;
     }
     Ok(())
 }
 
-/// Makes the rows of the root.
-fn reach_root<G: ReadGraph<L>, L: Ledger>(
+/// Makes the rows of the root, of the vertices that fit it. Each takes one step.
+fn reach_root<G: HoldGraph, L: Ledger>(
     graph: &G,
     pattern: &Pattern,
     tree: &QueryTree,
+    roots: &[u32],
     dcg: &mut Dcg,
     steps: &mut Steps<L>,
 ) -> Result<(), AllocError>
     requires belongs { BelongsTo pattern.now tree.now }
+    requires roots { roots.now ≡ with_root_labels pattern.now tree.now (G.graph graph.now) (G.listed graph.now) }
     requires empty { dcg.old ≡ record { is_broken = false; children = child_counts tree.now; rows = empty } }
     ensures reached { OnOk result (IsReachedTo pattern.now tree.now (G.graph graph.now) 1 0 dcg.new) }
-    ensures steps { OnOk result (steps.new ≤ steps.old + 3 * length (G.graph graph.now).vertices) }
+    ensures steps { OnOk result (steps.new ≤ steps.old + length (G.graph graph.now).vertices) }
 {
     let root = tree.root();
-    let labels = pattern.labels(root);
-    for i in 0..graph.vertex_count() {
-        let v = graph.vertex_at(i, steps);
-        if graph.fits(v, labels, steps) {
-            dcg.raise_in(root, v, steps)?;
-        }
+    // For the proof: the root has labels, and the graph has each vertex once and is within its limits.
+    let _labels = pattern.labels(root);
+    let _count = graph.vertex_count();
+    for v in roots {
+        dcg.raise_in(root, *v, steps)?;
     }
     Ok(())
 }

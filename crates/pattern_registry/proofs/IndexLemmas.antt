@@ -12,7 +12,7 @@ use Rattle.flux_model.specs.Tree.{QueryTree, tree, BelongsTo}
 use Rattle.flux_model.specs.Exact.{StateRows, IsExact}
 use Rattle.pattern_registry.specs.declared.index.PatternIndex.{PatternIndex}
 use Rattle.pattern_registry.specs.States.{PatternStates, IsIndexed, AreExact, trees_over}
-use Rattle.pattern_registry.specs.Indexes.{pattern_states}
+use Rattle.pattern_registry.specs.Indexes.{pattern_states, IsStarted}
 use Rattle.pattern_registry.proofs.ZipLemmas.{AllZip-append}
 
 abbrev tree_of : PatternIndex → QueryTree
@@ -43,12 +43,6 @@ module _ (s : PatternStates) (patterns : List PatternGraph) (indexes : List Patt
       (slice_get-map dcg_of indexes k ∙ ap (option_map dcg_of) (read_here seen indexed within here))
 
 -- ---- of all
-
--- what is kept of a pattern that is started over a graph
-pub record IsStarted (g : Graph) (q : PatternGraph) (index : PatternIndex) : Type 0 where
-  pub chosen : index.tree ≡ tree q g
-  pub belongs : BelongsTo q index.tree
-  pub exact : IsExact q index.tree g index.dcg
 
 pub started_next : (g : Graph) (qs : List PatternGraph) (old new : List PatternIndex) (k : ℕ) (q : PatternGraph) (index : PatternIndex) → slice_get qs k ≡ Some q
     → AllZip (IsStarted g) (take k qs) old → IsStarted g q index → new ≡ old ++ index ∷ [] → AllZip (IsStarted g) (take (k + 1) qs) new
@@ -85,11 +79,11 @@ trees_chosen g [] (i ∷ is) a = absurd a
 trees_chosen g (p ∷ ps) [] a = absurd a
 trees_chosen g (p ∷ ps) (i ∷ is) a = ap (λ t. t ∷ map tree_of is) a.0.chosen ∙ ap (λ ts. tree p g ∷ ts) (trees_chosen g ps is a.1)
 
--- all patterns are started
-module _ (g : Graph) (n : ℕ) (patterns : List PatternGraph) (indexes : List PatternIndex) (all : length patterns ≤ n) (so_far : AllZip (IsStarted g) (take n patterns) indexes) where
-  started : AllZip (IsStarted g) patterns indexes
-  started = subst (λ qs. AllZip (IsStarted g) qs indexes) (take_all n patterns all) so_far
+-- those so far are all
+pub started-all : (g : Graph) (n : ℕ) (patterns : List PatternGraph) (indexes : List PatternIndex) → length patterns ≤ n → AllZip (IsStarted g) (take n patterns) indexes → AllZip (IsStarted g) patterns indexes
+started-all g n patterns indexes all so_far = subst (λ qs. AllZip (IsStarted g) qs indexes) (take_all n patterns all) so_far
 
+module _ (g : Graph) (patterns : List PatternGraph) (indexes : List PatternIndex) (started : AllZip (IsStarted g) patterns indexes) where
   pub started-indexed : IsIndexed (pattern_states patterns indexes false)
   started-indexed = record {
     trees = length-map indexes tree_of ∙ AllZip-long (IsStarted g) patterns indexes started;

@@ -6,3 +6,4 @@ pub mod Routes
 pub mod MovedRows
 pub mod SoleVertex
 pub mod UpdateCosts
+pub mod RootLists

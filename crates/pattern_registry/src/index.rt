@@ -1,5 +1,6 @@
-//! `PatternIndex`: the tree and the rows of one pattern.
+//! `PatternIndex`: the tree and the rows of one pattern, and those of all.
 ghost use Rattle.std.specs.Prelude.{◌≡◌, ◌≤◌, ◌+◌, ◌*◌, true, false, IfOk, OnOk, IsPermutation};
+ghost use Rattle.std.specs.List.{AllZip, sum_by};
 ghost use Rattle.dcg_updates.specs.VertexApart.{IsVertexApart};
 ghost use Rattle.flux_model.specs.Change.{gained};
 ghost use Rattle.flux_model.specs.Costs.{no_dead_end_cost, start_cost};
@@ -7,13 +8,17 @@ ghost use Rattle.flux_model.specs.Embedding.{embeddings};
 ghost use Rattle.flux_model.specs.Exact.{IsExact};
 ghost use Rattle.flux_model.specs.Graph.{Graph, has_both_ends, has_triple, with_triple, without_triple};
 ghost use Rattle.flux_model.specs.Tree.{cards as cards_over, tree, BelongsTo};
+ghost use Rattle.pattern_registry.specs.Indexes.{IsStarted};
+ghost use Rattle.pattern_registry.specs.RootLists.{AreRootLists};
 ghost use Rattle.pattern_registry.specs.UpdateCosts.{both_costs, rows_cost, looks_cost};
 ghost use Rattle.tree_search.specs.SearchCosts.{MeetsNoDeadEnd};
 
+use crate::roots::RootLists;
 use dcg_store::Dcg;
-use dcg_transition::{after_delete, after_insert, after_vertex, build};
-use flux_model::{Cards, Ledger, Maps, Pattern, Steps, Triple};
+use dcg_transition::{after_delete, after_insert, after_vertex, build_from};
+use flux_model::{Cards, Ledger, Maps, Pattern, Patterns, Steps, Triple};
 use graph_traits::{HoldGraph, ReadGraph};
+use label_cards::all_cards;
 use query_tree::QueryTree;
 use std::alloc::{AllocError, Global};
 use tree_search::{all, at_edge, has_none};
@@ -30,22 +35,28 @@ pub struct PatternIndex {
 impl PatternIndex {
     /// The tree that the cards of the pattern over the graph choose, and its exact rows over the graph.
     ///
-    /// It takes at most three quarters of the steps of a start.
-    pub fn build<G: ReadGraph<L>, L: Ledger>(
+    /// `lists` has the vertices that fit some sets of labels, and gets those that fit the root's, unless it has them. It takes at most
+    /// three quarters of the steps of a start.
+    pub fn build<'a, G: ReadGraph<L>, L: Ledger>(
         alloc: Global,
-        pattern: &Pattern,
+        pattern: &'a Pattern,
         cards: &Cards,
         graph: &G,
+        lists: &mut RootLists<'a>,
         steps: &mut Steps<L>,
     ) -> Result<PatternIndex, AllocError>
-        requires { cards.now ≡ cards_over pattern.now (G.graph graph.now) }
+        requires cards { cards.now ≡ cards_over pattern.now (G.graph graph.now) }
+        requires lists { AreRootLists (G.graph graph.now) (G.listed graph.now) lists.old.lists.items }
         ensures tree { IfOk result (λ index. index.tree ≡ tree pattern.now (G.graph graph.now)) }
         ensures belongs { IfOk result (λ index. BelongsTo pattern.now index.tree) }
         ensures exact { IfOk result (λ index. IsExact pattern.now index.tree (G.graph graph.now) index.dcg) }
+        ensures lists { OnOk result (AreRootLists (G.graph graph.now) (G.listed graph.now) lists.new.lists.items) }
         ensures steps { OnOk result (4 * steps.new ≤ 4 * steps.old + 3 * start_cost pattern.now (G.graph graph.now)) }
     {
         let tree = QueryTree::choose(alloc, pattern, cards)?;
-        let dcg = build(alloc, pattern, &tree, graph, steps)?;
+        let place = lists.place(alloc, pattern.labels(tree.root()), graph, steps)?;
+        let roots = lists.vertices(place);
+        let dcg = build_from(alloc, pattern, &tree, graph, roots, steps)?;
         Ok(PatternIndex { tree, dcg })
     }
 
@@ -161,4 +172,28 @@ impl PatternIndex {
         }
         Ok(maps)
     }
+}
+
+/// What is kept of each pattern, in the same order, as it starts over the graph.
+///
+/// It takes no more steps than the starts of the patterns. `AllocError` where no memory is left.
+pub fn indexes_over<G: ReadGraph<L>, L: Ledger>(
+    alloc: Global,
+    patterns: &Patterns,
+    graph: &G,
+    steps: &mut Steps<L>,
+) -> Result<Vec<PatternIndex>, AllocError>
+    ensures started { IfOk result (λ indexes. AllZip (IsStarted (G.graph graph.now)) patterns.now indexes.items) }
+    ensures steps { let starts = sum_by (λ q. start_cost q (G.graph graph.now)) patterns.now in
+        OnOk result (steps.new ≤ steps.old + starts) }
+{
+    let cards = all_cards(alloc, graph, patterns, steps)?;
+    let mut lists = RootLists::new(alloc);
+    let mut indexes = Vec::new(alloc);
+    for k in 0..patterns.count() {
+        let (pattern, cards) = (patterns.get(k), &cards[k]);
+        let index = PatternIndex::build(alloc, pattern, cards, graph, &mut lists, steps)?;
+        indexes.push(index)?;
+    }
+    Ok(indexes)
 }

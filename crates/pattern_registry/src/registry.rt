@@ -14,14 +14,13 @@ ghost use Rattle.flux_model.specs.Tree.{BelongsTo};
 ghost use Rattle.pattern_registry.specs.States.{trees_over, IsIndexed, AreExact};
 ghost use Rattle.pattern_registry.specs.AnswerCosts.{AnswerStaysWithin, MeetNoDeadEnd, no_dead_end_costs};
 
-use crate::index::PatternIndex;
+use crate::index::{PatternIndex, indexes_over};
 use crate::routes::{Routes, route_of, routes_to};
 use crate::triples::{delete_along, insert_along, losses_along};
 use crate::vertices::{gains_at, losses_at, move_all};
 use dcg_store::Dcg;
 use flux_model::{Code, Delta, Deltas, Labels, Ledger, Maps, Patterns, Steps, Triple, Update};
 use graph_traits::{HoldGraph, KeepGraph, ReadGraph};
-use label_cards::all_cards;
 use query_tree::QueryTree;
 use std::alloc::{AllocError, Global};
 use std::marker::Model;
@@ -72,12 +71,7 @@ impl Registry {
         ensures steps { let starts = sum_by (λ q. start_cost q (G.graph graph.now)) patterns in
             OnOk result (steps.new ≤ steps.old + starts) }
     {
-        let cards = all_cards(alloc, graph, &patterns, steps)?;
-        let mut indexes = Vec::new(alloc);
-        for k in 0..patterns.count() {
-            let (pattern, cards) = (patterns.get(k), &cards[k]);
-            indexes.push(PatternIndex::build(alloc, pattern, cards, graph, steps)?)?;
-        }
+        let indexes = indexes_over(alloc, &patterns, graph, steps)?;
         let routes = routes_to(alloc, &patterns, graph.seed())?;
         Ok(Registry {
             alloc,

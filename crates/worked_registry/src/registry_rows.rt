@@ -26,7 +26,11 @@ struct Row {
 
 const CIRCLE: &str = "v 1\nv 2\nv 3\ne 1 2 r\ne 2 3 r\ne 3 1 r";
 
-const ROWS: [Row; 4] = [
+/// Three patterns, of which the first and the last have a root with the label `A` alone, and the other one a root with `B`.
+const TWO_ROOTS: &str =
+    "p from hom\nv 0 A\nv 1\ne 0 1 r\np end hom\nv 0 B\np to hom\nv 0\nv 1 A\ne 0 1 r";
+
+const ROWS: [Row; 5] = [
     // A triangle is answered in three turns.
     Row {
         graph: CIRCLE,
@@ -54,6 +58,17 @@ const ROWS: [Row; 4] = [
         patterns: LABELLED_CHAIN,
         kept: &[(1, 2)],
         answers: &[],
+    },
+    // Patterns whose roots have the same labels have rows of their own, whatever pattern stands between them.
+    Row {
+        graph: "v 1 A\nv 2 A B\nv 3 B\ne 1 2 r\ne 2 3 r",
+        patterns: TWO_ROOTS,
+        kept: &[(0, 4), (0, 2), (1, 3)],
+        answers: &[
+            (0, &[&[1, 2], &[2, 3]]),
+            (1, &[&[2], &[3]]),
+            (2, &[&[1, 2]]),
+        ],
     },
 ];
 

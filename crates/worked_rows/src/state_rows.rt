@@ -3,7 +3,7 @@ ghost use Rattle.std.specs.Prelude.{◌≡◌, length, false};
 ghost use Rattle.flux_model.specs.Tree.{BelongsTo};
 
 use dcg_store::Dcg;
-use dcg_transition::build;
+use dcg_transition::{build, build_from, fitting};
 use flux_model::State::{Explicit, Implicit, Null};
 use flux_model::{Pattern, State, Steps, Tally};
 use label_graph::LabelGraph;
@@ -20,6 +20,8 @@ struct Row {
     pattern: &'static str,
     /// The cards of the edges by which the tree is chosen. Each vertex has card 1.
     edges: &'static [u64],
+    /// The vertices that fit the root, in the order of the graph.
+    roots: &'static [u32],
     /// Pairs with their states.
     states: &'static [(usize, u32, State)],
     /// How many rows there are.
@@ -36,6 +38,7 @@ const ROWS: [Row; 4] = [
         graph: "v 1 A\nv 2 B\nv 3 C\ne 1 2 r",
         pattern: LABELLED_CHAIN,
         edges: &[1, 0],
+        roots: &[2],
         states: &[(0, 1, Explicit), (1, 2, Implicit), (2, 3, Null)],
         stored: 2,
         live: &[1, 0, 0],
@@ -46,6 +49,7 @@ const ROWS: [Row; 4] = [
         graph: "v 1 A\nv 2 B\nv 3 C\ne 1 2 r\ne 2 3 r",
         pattern: LABELLED_CHAIN,
         edges: &[1, 0],
+        roots: &[2],
         states: &[(0, 1, Explicit), (1, 2, Explicit), (2, 3, Explicit)],
         stored: 3,
         live: &[1, 1, 1],
@@ -56,6 +60,7 @@ const ROWS: [Row; 4] = [
         graph: "v 1\nv 2\ne 1 2 r",
         pattern: CHAIN,
         edges: &[0, 1],
+        roots: &[1, 2],
         states: &[
             (0, 1, Implicit),
             (0, 2, Implicit),
@@ -73,6 +78,7 @@ const ROWS: [Row; 4] = [
         graph: "v 1\nv 2\ne 1 2 r\ne 2 1 r",
         pattern: CHAIN,
         edges: &[0, 1],
+        roots: &[1, 2],
         states: &[
             (0, 1, Explicit),
             (0, 2, Explicit),
@@ -93,7 +99,10 @@ fn is_right(alloc: Global, row: &Row) -> Result<bool, Unmade> {
     let patterns = patterns_of(alloc, row.pattern)?;
     let pattern = first(&patterns)?;
     let tree = tree_of(alloc, pattern, row.edges, &[1, 1, 1])?;
-    Ok(builds(alloc, pattern, &tree, &graph, row)?)
+    Ok(
+        builds(alloc, pattern, &tree, &graph, row)?
+            && builds_from_roots(alloc, pattern, &tree, &graph, row)?,
+    )
 }
 
 /// Whether the rows of states are built in few steps, and are those of the row.
@@ -110,6 +119,22 @@ fn builds(
     let dcg = build(alloc, pattern, tree, graph, &mut steps)?;
     let is_few = steps.ledger().read() <= row.most_steps;
     Ok(is_few && are_rows(tree, &dcg, row))
+}
+
+/// Whether the vertices that fit the root are those of the row, and the rows of states that are built from them are too.
+fn builds_from_roots(
+    alloc: Global,
+    pattern: &Pattern,
+    tree: &QueryTree,
+    graph: &LabelGraph,
+    row: &Row,
+) -> Result<bool, AllocError>
+    requires { BelongsTo pattern.now tree.now }
+{
+    let mut steps = Steps::new(Tally::new());
+    let roots = fitting(alloc, graph, pattern.labels(tree.root()), &mut steps)?;
+    let dcg = build_from(alloc, pattern, tree, graph, roots.as_slice(), &mut steps)?;
+    Ok(roots.as_slice() == row.roots && are_rows(tree, &dcg, row))
 }
 
 /// Whether the rows of states are these.

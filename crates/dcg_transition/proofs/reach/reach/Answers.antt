@@ -18,14 +18,14 @@ loop-level-preserved g c =
     let graph = g.G.HoldGraph.graph c.args.graph.now in
     record {
       reached = c.in_ok-reach_level.ensures.reached;
-      steps = above-next c.loop-level.level c.args.depths.now (length graph.vertices + 3 * length graph.triples) (c.args.steps.now + 3 * length graph.vertices) c.loop-level.steps c.reach_level.new.steps
+      steps = above-next c.loop-level.level c.args.depths.now (length graph.vertices + 3 * length graph.triples) (c.args.steps.now + length graph.vertices) c.loop-level.steps c.reach_level.new.steps
           c.loop-level.invariant.steps c.in_ok-reach_level.ensures.steps;
     }
 
 pub returns-clause-steps : goal.returns-clause-steps
 returns-clause-steps g c =
     let graph = g.G.HoldGraph.graph c.args.graph.now in
-    above-end c.loop-level.level c.args.depths.now (length c.args.tree.now.links) (length graph.vertices + 3 * length graph.triples) (c.args.steps.now + 3 * length graph.vertices) c.loop-level.steps
+    above-end c.loop-level.level c.args.depths.now (length c.args.tree.now.links) (length graph.vertices + 3 * length graph.triples) (c.args.steps.now + length graph.vertices) c.loop-level.steps
     (length-depths c.args.tree.now c.args.depths.now c.requires.depths) c.loop-level.invariant.steps
 
 pub returns-clause-counted : goal.returns-clause-counted

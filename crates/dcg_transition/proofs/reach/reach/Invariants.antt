@@ -10,5 +10,5 @@ invariant-loop-level g l =
     let graph = g.G.HoldGraph.graph l.graph in
     record {
       reached : IsReached (joined l.pattern l.tree graph) (is_before l.tree l.level 0) l.dcg;
-      steps : l.steps ≤ l.fn.steps + 3 * length graph.vertices + above_level l.level l.depths * (length graph.vertices + 3 * length graph.triples);
+      steps : l.steps ≤ l.fn.steps + length graph.vertices + above_level l.level l.depths * (length graph.vertices + 3 * length graph.triples);
     }

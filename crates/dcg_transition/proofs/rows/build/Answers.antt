@@ -1,8 +1,10 @@
-use Rattle.std.proofs.Common.{length, arith}
-use Rattle.dcg_transition.proofs.StepLemmas.{build_paid}
+use Rattle.std.proofs.Common.{◌≡◌, subst, sym, ◌∙◌}
+use Rattle.std.specs.Prelude.{Some, slice_get}
+use Rattle.dcg_transition.proofs.FittingLemmas.{root-fitting}
 use Rattle.dcg_transition.proofs.rows.build.Goals as goal
 
-pub returns-clause-steps : goal.returns-clause-steps
-returns-clause-steps g c =
-    build_paid (g.G.HoldGraph.graph c.args.graph.now) c.args.pattern.now (length c.args.tree.now.links) c.args.steps.now c.reach.new.steps c.extend.new.steps
-    c.requires.vertices (omega (arith, c.requires.tree.root)) c.in_ok-reach.ensures.steps c.in_ok-extend.ensures.steps
+pub build_from-requires-clause-roots : goal.build_from-requires-clause-roots
+build_from-requires-clause-roots g c =
+    let graph = c.args.graph.now in
+    let labels = subst (λ u. slice_get c.args.pattern.now.labels u ≡ Some c.labels.result.now) c.root.ensures.root c.labels.ensures in
+    c.as_slice.ensures.value ∙ c.in_ok-roots.ensures.vertices ∙ sym (root-fitting c.args.pattern.now c.args.tree.now (g.G.HoldGraph.graph graph) (g.G.HoldGraph.listed graph) c.labels.result.now labels)
