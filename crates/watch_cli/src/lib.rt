@@ -8,8 +8,6 @@
 
 mod answers;
 mod demo;
-#[cfg(test)]
-mod order_tests;
 mod report;
 mod save;
 mod status;

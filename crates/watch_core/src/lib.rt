@@ -8,8 +8,6 @@
 mod graph_line;
 mod session;
 mod taken;
-#[cfg(test)]
-mod tests;
 
 pub use graph_line::take_graph_line;
 pub use session::Session;

@@ -260,11 +260,23 @@ fn embeddings_that_send_an_edge_to_a_triple(rt: HostRuntime) -> Result<(), Fail>
     Ok(())
 }
 
+/// Whether it is so over the store of hashed triples.
+fn is_right_at_hub_in_labels(alloc: Global, row: &Class) -> Result<bool, Unmade> {
+    let mut graph = graph_of(alloc, row.graph)?;
+    is_right_at_hub(alloc, &mut graph, row)
+}
+
+/// Whether it is so over the store of blocks.
+fn is_right_at_hub_in_blocks(alloc: Global, row: &Class) -> Result<bool, Unmade> {
+    let mut graph = block_graph_of(alloc, row.graph)?;
+    is_right_at_hub(alloc, &mut graph, row)
+}
+
 #[test]
 fn at_a_hub_the_few_vertices_of_the_index_are_walked(rt: HostRuntime) -> Result<(), Fail> {
-    let mut in_labels = graph_of(rt.alloc(), AT_HUB.graph)?;
-    assert!(rt; is_right_at_hub(rt.alloc(), &mut in_labels, &AT_HUB)?);
-    let mut in_blocks = block_graph_of(rt.alloc(), AT_HUB.graph)?;
-    assert!(rt; is_right_at_hub(rt.alloc(), &mut in_blocks, &AT_HUB)?);
+    let alloc = rt.alloc();
+    assert!(rt;
+        is_right_at_hub_in_labels(alloc, &AT_HUB)? && is_right_at_hub_in_blocks(alloc, &AT_HUB)?
+    );
     Ok(())
 }

@@ -3,12 +3,9 @@
 //! There are tests alone here, each over a table:
 //!
 //! - `edge_rows`: the embeddings that send one edge to a triple.
-//! - `class_rows`: what a triple brings and takes, by searches at it along every edge.
 //! - `fan_rows`: searches beside a vertex of many triples.
 #![tactic(auto)]
 
-#[cfg(test)]
-mod class_rows;
 #[cfg(test)]
 mod edge_rows;
 #[cfg(test)]

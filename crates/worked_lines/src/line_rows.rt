@@ -1,7 +1,6 @@
 //! Lines of a graph file and what they make of a store, lines of the updates and what they come to, worked out by hand.
 ghost use Rattle.std.specs.Prelude.{◌≡◌, codes, IfOk};
 
-use crate::{Session, Taken, take_graph_line};
 use flux_model::{
     Code, Deltas, Labels, Ledger, Limits, Line, Map, Maps, Mode, Pattern, PatternEdge, Patterns,
     Silent, Steps, Text,
@@ -10,12 +9,16 @@ use graph_traits::KeepGraph;
 use label_graph::{HoldGraph, LabelGraph, ReadGraph};
 use std::alloc::{AllocError, Global};
 use std::test::Fail;
+use watch_core::{Session, Taken, take_graph_line};
+
+/// A line of a graph file, and what it is to be answered.
+type Answered = (Line<'static>, Result<(), Code>);
 
 /// How many lines, from the first on, are answered as they should be.
-fn count_right(
+fn count_right<G: KeepGraph>(
     alloc: Global,
-    graph: &mut LabelGraph,
-    lines: &[(Line<'_>, Result<(), Code>)],
+    graph: &mut G,
+    lines: &[Answered],
 ) -> Result<usize, AllocError> {
     for i in 0..lines.len() {
         let (line, answer) = lines[i];
@@ -33,43 +36,46 @@ fn are_two(labels: &Labels) -> bool {
         && labels.get(1).bytes() == b"B".as_slice()
 }
 
-#[test]
-fn lines_that_are_accepted(rt: HostRuntime) -> Result<(), Fail> {
-    let mut graph = LabelGraph::new(rt.alloc(), &Limits::standard());
-    let lines = [
-        (Line::Held(b"v 2 B A A"), Ok(())),
-        (Line::Held(b""), Ok(())),
-        (Line::Held(b" \t"), Ok(())),
-        (Line::Held(b"# v 3"), Ok(())),
-        (Line::Held(b"v 1"), Ok(())),
-        (Line::Held(b"e 2 1 r"), Ok(())),
-        (Line::Held(b"e 2 1 r"), Ok(())),
-    ];
-    assert_eq!(rt; count_right(rt.alloc(), &mut graph, &lines)?, 7);
-    assert_eq!(rt; graph.vertex_count(), 2);
-    assert_eq!(rt; graph.edge_count(), 1);
-    let mut steps = Steps::new(Silent);
-    let label = Text::from_bytes(rt.alloc(), b"r")?;
-    assert!(rt; graph.has_edge(2, &label, 1, &mut steps));
-    assert!(rt; graph.has_vertex(1, &mut steps));
-    assert!(rt; graph.has_vertex(2, &mut steps));
-    assert!(rt; are_two(graph.labels_of(2, &mut steps)));
-    Ok(())
+/// Whether the graph has the vertices 1, and 2 with the labels `A` and `B`, and the edge `r` from 2 to 1 alone.
+fn has_one_edge<G: ReadGraph<L>, L: Ledger>(graph: &G, label: &Text, steps: &mut Steps<L>) -> bool {
+    if !graph.has_vertex(2, steps) {
+        return false;
+    }
+    are_two(graph.labels_of(2, steps))
+        && graph.has_vertex(1, steps)
+        && graph.vertex_count() == 2
+        && graph.edge_count() == 1
+        && graph.has_edge(2, label, 1, steps)
 }
 
+const ACCEPTED: [Answered; 7] = [
+    (Line::Held(b"v 2 B A A"), Ok(())),
+    (Line::Held(b""), Ok(())),
+    (Line::Held(b" \t"), Ok(())),
+    (Line::Held(b"# v 3"), Ok(())),
+    (Line::Held(b"v 1"), Ok(())),
+    (Line::Held(b"e 2 1 r"), Ok(())),
+    (Line::Held(b"e 2 1 r"), Ok(())),
+];
+
+const REFUSED: [Answered; 6] = [
+    (Line::Held(b"v 2"), Err(Code::Exists)),
+    (Line::Held(b"e 1 9 r"), Err(Code::NoVertex)),
+    (Line::Held(b"x"), Err(Code::Word)),
+    (Line::Held(b"v 2 B"), Err(Code::Exists)),
+    (Line::Held(b"v 4294967296"), Err(Code::Number)),
+    (Line::Long, Err(Code::Long)),
+];
+
 #[test]
-fn lines_that_are_refused(rt: HostRuntime) -> Result<(), Fail> {
-    let mut graph = LabelGraph::new(rt.alloc(), &Limits::standard());
-    let lines = [
-        (Line::Held(b"v 2"), Ok(())),
-        (Line::Held(b"v 2"), Err(Code::Exists)),
-        (Line::Held(b"e 1 9 r"), Err(Code::NoVertex)),
-        (Line::Held(b"x"), Err(Code::Word)),
-        (Line::Long, Err(Code::Long)),
-    ];
-    assert_eq!(rt; count_right(rt.alloc(), &mut graph, &lines)?, 5);
-    assert_eq!(rt; graph.vertex_count(), 1);
-    assert_eq!(rt; graph.edge_count(), 0);
+fn lines_of_a_graph_file(rt: HostRuntime) -> Result<(), Fail> {
+    let alloc = rt.alloc();
+    let mut steps = Steps::new(Silent);
+    let label = Text::from_bytes(alloc, b"r")?;
+    let mut graph = LabelGraph::new(alloc, &Limits::standard());
+    let accepted = count_right(alloc, &mut graph, &ACCEPTED)? == ACCEPTED.len();
+    let refused = count_right(alloc, &mut graph, &REFUSED)? == REFUSED.len();
+    assert!(rt; accepted && refused && has_one_edge(&graph, &label, &mut steps));
     Ok(())
 }
 
@@ -206,6 +212,17 @@ fn count_taken<G: KeepGraph + ReadGraph<L>, L: Ledger>(
     Ok(lines.len())
 }
 
+/// Whether this is the session's end line.
+fn has_end_line<G: KeepGraph>(
+    alloc: Global,
+    session: &Session<G>,
+    line: &[u8],
+) -> Result<bool, AllocError> {
+    let mut report = Vec::new(alloc);
+    session.end(&mut report)?;
+    Ok(*report.as_slice() == *line)
+}
+
 #[test]
 fn lines_that_are_taken(rt: HostRuntime) -> Result<(), Fail> {
     let alloc = rt.alloc();
@@ -213,12 +230,7 @@ fn lines_that_are_taken(rt: HostRuntime) -> Result<(), Fail> {
     let patterns = Patterns::new(vec![in alloc; dot(alloc)?, arc(alloc)?]?);
     let mut steps = Steps::new(Silent);
     let mut session = Session::start(alloc, graph, patterns, &mut steps)?;
-    assert_eq!(rt;
-        count_taken(&mut session, &UPDATES, &mut steps)?,
-        UPDATES.len()
-    );
-    let mut report = Vec::new(alloc);
-    session.end(&mut report)?;
-    assert_eq!(rt; report.as_slice(), b"= 12 6 4\n".as_slice());
+    let taken = count_taken(&mut session, &UPDATES, &mut steps)?;
+    assert!(rt; taken == UPDATES.len() && has_end_line(alloc, &session, b"= 12 6 4\n")?);
     Ok(())
 }

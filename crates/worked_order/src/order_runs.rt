@@ -1,12 +1,12 @@
 //! Every block is put before the next read: the source and the sink share a count of the bytes that were put. Answers are put in pieces.
 ghost use Rattle.std.specs.Prelude.{◌≡◌};
 
-use crate::{Status, run};
 use flux_model::{Limits, Silent, Steps};
 use flux_outside::{Failed, MemShelf, MemSink, MemSource, Sink, Source};
 use std::alloc::{AllocError, Global};
 use std::cell::Cell;
 use std::test::Fail;
+use watch_cli::{Status, run};
 
 /// A sink that counts the bytes that it took.
 #[derive(Drop)]
