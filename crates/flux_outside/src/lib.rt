@@ -7,7 +7,7 @@
 //! An object tells its bytes where contracts know them: the bytes that a source has left, that a
 //! sink took, that a shelf has under each name. What a call does to bytes is promised where they
 //! are told. What was asked every object tells: the reads that were made, each with what came, and
-//! the lengths of the pieces that were put.
+//! the lengths of the pieces that were put. `Calls` keeps that, for these objects and for others.
 //!
 //! `MemSource`, `MemSink` and `MemShelf` live in memory and tell everything, and a call says by
 //! contract when it fails. `StdinSource`, `StdoutSink` and `StderrSink` stand over a reader or a
@@ -30,6 +30,7 @@ mod stdin_source;
 mod stdout_sink;
 mod traits;
 
+pub use calls::Calls;
 pub use file_shelf::FileShelf;
 pub use mem_shelf::MemShelf;
 pub use mem_sink::MemSink;

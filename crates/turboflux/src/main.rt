@@ -2,50 +2,17 @@
 #![tactic(auto)]
 
 use flux_model::{Limits, Silent, Steps};
-use flux_outside::{FileShelf, Sink, StderrSink, StdinSource, StdoutSink};
-use std::alloc::Global;
-use std::env::Env;
-use std::io::ErrorKind;
+use flux_outside::{FileShelf, StderrSink, StdinSource, StdoutSink};
+use host_start::{seed_of, tell_no_words, words_of};
 use std::process::ExitCode;
-use std::random::RandomSource;
-use std::{env, io};
-use watch_cli::{Status, run};
-
-/// The words after the program's name.
-fn words_of(alloc: Global, rt: &(impl Env + Alloc<A = Global>)) -> io::Result<Vec<String>> {
-    let mut words = Vec::new(alloc);
-    for word in env::args(rt)?.skip(1) {
-        words.push(word)?;
-    }
-    Ok(words)
-}
-
-/// Tells why there are no words: memory was refused, or else a word is not UTF-8.
-fn without_words(error: &io::Error, err: &mut impl Sink) -> ExitCode {
-    let status = if error.kind() == ErrorKind::OutOfMemory {
-        Status::Memory
-    } else {
-        Status::Usage
-    };
-    let _ = err.put(status.text().as_bytes());
-    ExitCode::from(status.number())
-}
-
-/// The number that look-ups hash from, drawn from the system's random source; 0 where the draw fails.
-fn seed_of(rt: &impl RandomSource) -> u64 {
-    let mut bytes = [0; 8];
-    match rt.fill_bytes(&mut bytes) {
-        Ok(()) => u64::from_le_bytes(bytes),
-        Err(_) => 0,
-    }
-}
+use watch_cli::run;
 
 fn main(rt: HostRuntime) -> ExitCode {
     let alloc = rt.alloc();
     let mut err = StderrSink::new(rt.stderr());
     let words = match words_of(alloc, &rt) {
         Ok(words) => words,
-        Err(error) => return without_words(&error, &mut err),
+        Err(error) => return ExitCode::from(tell_no_words(&error, &mut err).number()),
     };
     let mut shelf = FileShelf::with_seed(alloc, &rt, seed_of(&rt));
     let mut updates = StdinSource::new(rt.stdin());

@@ -17,4 +17,4 @@ mod watch;
 mod words;
 
 pub use status::Status;
-pub use top::{Ended, Kept, run};
+pub use top::{Ended, Kept, run, tell};

@@ -156,8 +156,8 @@ fn judge<F: Shelf, S: Source, W: Sink, L: Ledger>(
     }
 }
 
-/// Tells the status, if it has a text. Nothing more is said of a failure.
-fn tell<E: Sink>(status: Status, err: &mut E)
+/// Tells the status by its line, if it has one. Where that cannot be written, nothing more is said of it.
+pub fn tell<E: Sink>(status: Status, err: &mut E)
     ensures told { Appends (E.taken err.old) (E.taken err.new) (status_text status)
         ⊎ (Rose (E.faults err.old) (E.faults err.new) × AppendsFront (E.taken err.old) (E.taken err.new) (status_text status)) }
     ensures puts { NoEmptyPut (E.puts err.old) (E.puts err.new) }
